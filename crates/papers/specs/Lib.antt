@@ -1,0 +1,5 @@
+pub mod First
+pub mod Faults
+pub mod Bytes
+pub mod Block
+pub mod Paper
