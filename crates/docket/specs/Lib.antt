@@ -6,3 +6,6 @@ pub mod Torus
 pub mod Filing
 pub mod Tallies
 pub mod Walks
+pub mod Walking
+pub mod Promise
+pub mod Shown

@@ -1,3 +1,4 @@
 pub mod Meaning
 pub mod Tiles
 pub mod Made
+pub mod Stacking

@@ -1,0 +1,4 @@
+pub mod Bytes
+pub mod Notes
+pub mod Shrinks
+pub mod Turns

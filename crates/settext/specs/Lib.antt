@@ -1,0 +1,5 @@
+pub mod Faults
+pub mod Place
+pub mod Items
+pub mod Lines
+pub mod Readers

@@ -1,0 +1,25 @@
+// The kinds of lines, and how far a reader has come in their order.
+
+// The kind of a line, which its first character says.
+#[derive(Clone, Copy)]
+pub(crate) enum LineKind {
+    // the number of the pile
+    Pile,
+    // the number of a row of the catalogue
+    Row,
+    // a tile
+    Tile,
+    // anything at all
+    Note,
+    // nothing
+    Blank,
+}
+
+// What the lines so far have said.
+#[derive(Clone, Copy)]
+pub(crate) enum Stage {
+    Empty,
+    Piled(u8),
+    Rowed(u8, u8),
+    Tiled(u8, u16),
+}
