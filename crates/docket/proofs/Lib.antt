@@ -1,2 +1,13 @@
 pub mod Steps
 pub mod Sides
+pub mod Paths
+pub mod Ranked
+pub mod Searching
+pub mod EitherOr
+pub mod Chains
+pub mod RowLaws
+pub mod RuleLaws
+pub mod TorusLaws
+pub mod Bands
+pub mod Kept
+pub mod Holding

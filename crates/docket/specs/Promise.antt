@@ -4,7 +4,7 @@ use lib.ListN.{length}
 use mathlib.Core.List.{List, [], _∷_}
 use mathlib.Core.Logic.{_⊎_, _↔_}
 use mathlib.Core.Path.{_≡_}
-use Rattle.std.specs.shelf.Lists.{All}
+use Rattle.papers.specs.Bytes.{Bytes}
 use Rattle.std.specs.declared.result.Result.the-variants.{Ok}
 use Rattle.papers.specs.Paper.{Contents, contents-of}
 use Rattle.papers.specs.declared.kind.Kind.the-variants.{Torus}
@@ -18,10 +18,6 @@ use Rattle.docket.specs.declared.width.Claim.{Claim}
 use Rattle.docket.specs.declared.width.Ends.{Ends}
 use Rattle.docket.specs.declared.width.Width.{Width}
 use Rattle.docket.specs.declared.width.Width.the-variants.{Number, Endless}
-
--- a list of bytes
-abbrev pub Bytes : List ℕ → Type 0
-Bytes bs = All (λ b. b < 256) bs
 
 -- what may be done with an open docket
 pub data Call : Type 0 where

@@ -4,6 +4,7 @@ ghost use mathlib.Core.Bool.{true, false};
 ghost use Rattle.std.specs.Results.{isOk};
 ghost use Rattle.papers.specs.Paper.{contents-of, held, reading};
 ghost use Rattle.docket.specs.Filing.{ends-after, filing-answer, judged, weighed};
+ghost use Rattle.docket.specs.Promise.{Promise};
 ghost use Rattle.docket.specs.Tallies.{no-tallies, tallied, tallies-after, tally-in, reading-tallies};
 ghost use Rattle.docket.specs.Widths.{fresh-ends, moved};
 ghost use Rattle.docket.specs.declared.tally.Subject.the-variants.{Of};
@@ -30,11 +31,12 @@ pub struct Docket<P> {
 }
 
 impl<P: Transducer> Docket<P> {
-    // A new docket: floor 0, ceiling endless, no papers.
+    // A new docket: floor 0, ceiling endless, no papers. It promises of every list of calls that follows what the two widths then mean.
     pub fn open(pile: P) -> Docket<P>
         ensures pile { λ r. ⌜ r .pile ≡ pile ⌝ }
         ensures ends { λ r. ⌜ r .ends ≡ fresh-ends ⌝ }
         ensures tallies { λ r. ⌜ r .tallies .table ≡ no-tallies ⌝ }
+        ensures promise { λ _. ⌜ Promise (meaning pile) ⌝ }
     {
         Docket {
             pile,

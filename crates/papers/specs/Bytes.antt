@@ -1,7 +1,12 @@
 -- Numbers in bytes, least byte first, and a block's check. Assumes nothing.
-use Prim.Native.Nat.{ℕ, zero, suc, _+_, _*_}
+use Prim.Native.Nat.{ℕ, zero, suc, _+_, _*_, _<_}
 use lib.ListN.{getD}
 use mathlib.Core.List.{List}
+use Rattle.std.specs.shelf.Lists.{All}
+
+-- numbers that are bytes
+abbrev pub Bytes : List ℕ → Type 0
+Bytes bs = All (λ b. b < 256) bs
 
 -- the number of 16 bits at a byte
 abbrev pub half : List ℕ → ℕ → ℕ

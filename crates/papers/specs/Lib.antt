@@ -3,3 +3,4 @@ pub mod Faults
 pub mod Bytes
 pub mod Block
 pub mod Paper
+pub mod Form

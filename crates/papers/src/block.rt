@@ -5,6 +5,7 @@ ghost use Prim.Native.Nat.{_+_, _*_, _<_, _≤_};
 ghost use lib.Dec.{eqb, leb};
 ghost use lib.ListN.{length, getD};
 ghost use Rattle.papers.specs.First.{first};
+ghost use Rattle.papers.specs.Form.{block-law};
 ghost use Rattle.papers.specs.Block.{block-of, kind-of, count-fits, padding, is-kind};
 use crate::fault::BlockFault;
 use crate::kind::Kind;
@@ -73,7 +74,8 @@ fn padded(bytes: &[u8], place: u16) -> Result<(), BlockFault>
 
 // Reads one block at its due place, of its due kind (0: any), as the last of its paper or not.
 pub fn read_block(bytes: &[u8], place: u16, kind: u8, last: bool) -> Result<Block, BlockFault>
-    ensures { λ r. ⌜ r ≡ block-of (now (bytes .entry)) place kind last ⌝ }
+    ensures answer { λ r. ⌜ r ≡ block-of (now (bytes .entry)) place kind last ⌝ }
+    ensures law { λ r. ⌜ block-law (now (bytes .entry)) place kind last r ⌝ }
 {
     if bytes.len() != 512 {
         return Err(BlockFault::Length);

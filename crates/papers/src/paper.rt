@@ -3,6 +3,7 @@ ghost use mathlib.Core.Path.{_≡_};
 ghost use Prim.Native.Nat.{_+_, _*_, _/_, _%_, _<_, _≤_};
 ghost use lib.ListN.{length, getD};
 ghost use Rattle.papers.specs.First.{first};
+ghost use Rattle.papers.specs.Form.{reading-law};
 ghost use Rattle.papers.specs.Paper.{blocks, block-at, due-kind, block-passes, paper-count, reading, contents-of, held};
 use crate::block::kind_from;
 use crate::block::read_block;
@@ -93,7 +94,8 @@ fn pass_blocks(bytes: &[u8]) -> Result<(), PaperFault>
 
 // Reads the bytes as a paper, or answers their first fault.
 pub fn read_paper(bytes: &[u8]) -> Result<Paper<'_>, PaperFault>
-    ensures { λ r. ⌜ reading r ≡ contents-of (now (bytes .entry)) ⌝ }
+    ensures answer { λ r. ⌜ reading r ≡ contents-of (now (bytes .entry)) ⌝ }
+    ensures law { λ r. ⌜ reading-law (now (bytes .entry)) r ⌝ }
 {
     let blocks = bytes.len() / BLOCK_BYTES;
     if bytes.len() % BLOCK_BYTES != 0 || blocks < 1 || blocks > MOST_BLOCKS {

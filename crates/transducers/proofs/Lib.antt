@@ -1,1 +1,4 @@
 pub mod Greatest
+pub mod Turned
+pub mod Multipliers
+pub mod Stacks

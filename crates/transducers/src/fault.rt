@@ -17,3 +17,14 @@ pub impl From<AllocError> for ListFault as ListFromAlloc {
         ListFault::Memory
     }
 }
+
+// The catalogue has rows 1 to 8 and no other.
+#[derive(Clone, Copy, PartialEq, Eq, Debug)]
+pub struct RowFault;
+
+// Why two transducers make no stack: more than 4,096 states, or more than 1,048,576 slots.
+#[derive(Clone, Copy, PartialEq, Eq, Debug)]
+pub enum StackFault {
+    States,
+    Slots,
+}
