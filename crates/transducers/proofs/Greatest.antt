@@ -4,8 +4,11 @@ use lib.ListN.{length, getD, drop}
 use mathlib.Core.List.{List, [], _∷_}
 use mathlib.Core.Path.{_≡_, refl, sym, ap, _∙_}
 use native.Mathlib.Omega.{arith}
+use mathlib.Core.Logic.{inl, inr}
+use Rattle.std.proofs.shelf.Tests.{cases-lt}
 use Rattle.std.proofs.shelf.Lists.{at-drop-more, at-drop-all}
-use Rattle.transducers.specs.Tiles.{greatest}
+use Rattle.transducers.specs.Made.{OneMore}
+use Rattle.transducers.specs.Tiles.{blank, greatest}
 use Rattle.transducers.specs.declared.tile.Tile.{Tile}
 
 module _ (f : Tile → ℕ) where
@@ -27,3 +30,23 @@ module _ (f : Tile → ℕ) where
   greatest-all ts i so past before =
       let none : greatest f (drop i ts) ≡ 0 = at-drop-all (greatest f) ts i past in
       omega arith
+
+  -- some tile has the greatest
+  pub greatest-attained : (ts : List Tile) (d : Tile) → 1 ≤ length ts → (i : ℕ) × (i < length ts) × (f (getD ts i d) ≡ greatest f ts)
+  unfolding greatest
+  greatest-attained [] d some = absurd (omega arith)
+  greatest-attained (t ∷ []) d some = (0, omega arith, omega arith)
+  greatest-attained (t ∷ u ∷ ts) d some =
+      let rest = greatest-attained (u ∷ ts) d (omega arith) in
+      elim (cases-lt (f t) (greatest f (u ∷ ts))) [
+        inl lt ↦ (suc (rest .0), omega (arith, rest .1), omega (arith, rest .2))
+      | inr ge ↦ (0, omega arith, omega arith)
+      ]
+
+  pub one-more : (ts : List Tile) (n : ℕ) → 1 ≤ length ts → n ≡ greatest f ts + 1 → OneMore f ts n
+  one-more ts n some is =
+      let top = greatest-attained ts blank some in
+      record {
+        bounds = λ i within. omega (arith, greatest-bounds ts i blank within);
+        attained = (top .0, top .1, omega (arith, top .2));
+      }

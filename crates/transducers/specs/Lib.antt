@@ -6,3 +6,4 @@ pub mod Turning
 pub mod Catalogue
 pub mod CatalogueMade
 pub mod Held
+pub mod Multiplying
