@@ -11,3 +11,8 @@ pub mod TorusLaws
 pub mod Bands
 pub mod Kept
 pub mod Holding
+pub mod Verdicts
+pub mod RowFaults
+pub mod RuleFaults
+pub mod Accepting
+pub mod Refusing

@@ -9,3 +9,4 @@ pub mod Walks
 pub mod Walking
 pub mod Promise
 pub mod Shown
+pub mod Accepted

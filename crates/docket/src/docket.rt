@@ -3,9 +3,10 @@ ghost use mathlib.Core.Path.{_≡_};
 ghost use mathlib.Core.Bool.{true, false};
 ghost use Rattle.std.specs.Results.{isOk};
 ghost use Rattle.papers.specs.Paper.{contents-of, held, reading};
+ghost use Rattle.docket.specs.Accepted.{filing-law};
 ghost use Rattle.docket.specs.Filing.{ends-after, filing-answer, judged, weighed};
 ghost use Rattle.docket.specs.Promise.{Promise};
-ghost use Rattle.docket.specs.Tallies.{no-tallies, tallied, tallies-after, tally-in, reading-tallies};
+ghost use Rattle.docket.specs.Tallies.{no-tallies, tallied, tallies-after, reading-tallies};
 ghost use Rattle.docket.specs.Widths.{fresh-ends, moved};
 ghost use Rattle.docket.specs.declared.tally.Subject.the-variants.{Of};
 use crate::fault::DocketFault;
@@ -13,7 +14,6 @@ use crate::fault::DocketFromPaper;
 use crate::judging::weigh;
 use crate::tally::Subject;
 use crate::tally::Tallies;
-use crate::tally::Tally;
 use crate::width::Claim;
 use crate::width::Ends;
 use crate::width::Width;
@@ -21,6 +21,8 @@ use papers::Paper;
 use papers::PaperFault;
 use papers::read_paper;
 use transducers::Transducer;
+
+mod asking;
 
 // A pile is any transducer, with layers on it or none.
 #[derive(Drop)]
@@ -46,20 +48,6 @@ impl<P: Transducer> Docket<P> {
             },
             tallies: Tallies::new(),
         }
-    }
-
-    // The floor and the ceiling.
-    pub fn ends(&self) -> Ends
-        ensures { λ r. ⌜ r ≡ now (self .entry) .ends ⌝ }
-    {
-        self.ends
-    }
-
-    // How many papers of a subject were accepted and turned down.
-    pub fn tally(&self, subject: Subject) -> Tally
-        ensures { λ r. ⌜ r ≡ tally-in (now (self .entry) .tallies .table) subject ⌝ }
-    {
-        self.tallies.of(subject)
     }
 
     // Reads a paper; one that cannot be read is tallied.
@@ -96,6 +84,7 @@ impl<P: Transducer> Docket<P> {
         ensures pile { λ _. ⌜ now (self .exit) .pile ≡ now (self .entry) .pile ⌝ }
         ensures ends { λ _. ⌜ now (self .exit) .ends ≡ ends-after (now (self .entry) .ends) (judged (meaning (now (self .entry) .pile)) (now (paper .entry))) ⌝ }
         ensures tallies { λ _. ⌜ now (self .exit) .tallies .table ≡ tallies-after (now (self .entry) .tallies .table) (meaning (now (self .entry) .pile)) (now (paper .entry)) ⌝ }
+        ensures law { λ _. ⌜ filing-law (meaning (now (self .entry) .pile)) (now (paper .entry)) (judged (meaning (now (self .entry) .pile)) (now (paper .entry))) ⌝ }
     {
         let paper = self.read(paper)?;
         let claim = self.weigh(&paper)?;

@@ -67,6 +67,6 @@ pub impl From<PaperFault> for DocketFault as DocketFromPaper {
     ghost converts = { λ fault r. r ≡ of-paper fault };
 
     fn from(fault: PaperFault) -> DocketFault {
-        DocketFault::Paper(fault)
+        Self::Paper(fault)
     }
 }

@@ -1,23 +1,20 @@
 // A docket over the set's pile, and its papers.
 use crate::files::read_file;
-use docket::Docket;
+use reports::SetDocket;
 use reports::paper_line;
+use reports::pile_line;
 use settext::SetText;
 use std::error::AnyError;
-use transducers::ListFault;
-use transducers::ListIsTransducer;
-use transducers::ListTransducer;
 use transducers::Tile;
-use transducers::Transducer;
 
 const MOST_PAPERS: u32 = 9;
 // One byte more than a paper may have, so that a longer one is seen to be longer.
 const PAPER_BYTES: u64 = 32769;
 
 // Files paper1.bin to paper9.bin until one is missing, and prints a line for each.
-fn file_papers<P: Transducer + Drop>(rt: &LibcRuntime, pile: P) -> Result<(), AnyError> {
+fn file_papers(rt: &LibcRuntime, docket: SetDocket) -> Result<(), AnyError> {
     let heap = rt.alloc();
-    let mut docket = Docket::open(pile);
+    let mut docket = docket;
     for k in 1..=MOST_PAPERS {
         let name = format!(heap, "paper{k}.bin")?;
         let Some(paper) = read_file(rt, name.as_str(), PAPER_BYTES)? else {
@@ -29,15 +26,16 @@ fn file_papers<P: Transducer + Drop>(rt: &LibcRuntime, pile: P) -> Result<(), An
     Ok(())
 }
 
-// Opens a docket over the pile that the set text names.
+// Opens a docket over the pile that the set text names, and files the papers.
 pub fn judge_set(rt: &LibcRuntime, set: SetText, tiles: &[Tile]) -> Result<(), AnyError> {
-    if set.pile != 1 || set.row != 0 || tiles.len() < set.tiles as usize {
-        rt.println("set not judged: this version judges pile 1 over tiles")?;
-        return Ok(());
-    }
-    match ListTransducer::new(rt.alloc(), &tiles[0..set.tiles as usize]) {
-        Ok(pile) => file_papers(rt, pile),
-        Err(ListFault::Length) => Err("no tiles".into()),
-        Err(ListFault::Memory) => Err("out of memory".into()),
+    match SetDocket::of_set(rt.alloc(), set, tiles) {
+        Ok(docket) => file_papers(rt, docket),
+        Err(fault) => match fault.number() {
+            Some(number) => {
+                rt.println(pile_line(rt.alloc(), number)?)?;
+                Ok(())
+            }
+            None => Err("out of memory".into()),
+        },
     }
 }

@@ -73,6 +73,6 @@ pub impl From<BlockFault> for PaperFault as PaperFromBlock {
     ghost converts = { λ fault r. r ≡ of-block fault };
 
     fn from(fault: BlockFault) -> PaperFault {
-        PaperFault::Block(fault)
+        Self::Block(fault)
     }
 }

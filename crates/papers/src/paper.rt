@@ -38,7 +38,7 @@ impl Paper<'_> {
     pub fn len(&self) -> u32
         ensures { λ r. ⌜ r ≡ length (held (now (self .entry)) .numbers) ⌝ }
     {
-        self.count as u32
+        u32::from(self.count)
     }
 
     // The number at a place, 0 past the last.

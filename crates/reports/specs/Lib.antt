@@ -1,1 +1,5 @@
 pub mod Lines
+pub mod PileFaults
+pub mod Piles
+pub mod SetDockets
+pub mod Samples

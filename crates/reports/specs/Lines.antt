@@ -37,3 +37,7 @@ paper-refused k f =
 abbrev pub paper-text : ℕ → Result Ends DocketFault → List ℕ
 paper-text k (Ok e) = paper-accepted k e
 paper-text k (Err f) = paper-refused k f
+
+-- pile refused N
+abbrev pub pile-refused : ℕ → List ℕ
+pile-refused n = codes "pile refused " ++ decimal n

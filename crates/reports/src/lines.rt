@@ -2,7 +2,7 @@
 ghost use mathlib.Core.Path.{_≡_};
 ghost use Rattle.std.specs.Of.String.{string-bytes};
 ghost use Rattle.std.specs.Vec.{made};
-ghost use Rattle.reports.specs.Lines.{paper-accepted, paper-refused, paper-text, set-refused};
+ghost use Rattle.reports.specs.Lines.{paper-accepted, paper-refused, paper-text, pile-refused, set-refused};
 use docket::DocketFault;
 use docket::Ends;
 use docket::WidthDisplay;
@@ -51,4 +51,11 @@ pub fn paper_line(
         Ok(ends) => accepted_line(heap, paper, ends),
         Err(fault) => refused_line(heap, paper, fault),
     }
+}
+
+// The line of a pile that was refused with this number.
+pub fn pile_line(heap: Global, number: u8) -> Result<String, AllocError>
+    ensures { λ r. ⌜ made r (λ s. string-bytes s ≡ pile-refused number) ⌝ }
+{
+    format!(heap, "pile refused {number}")
 }

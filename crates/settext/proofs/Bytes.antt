@@ -2,11 +2,11 @@
 use Prim.Native.Nat.{ℕ, _-_, _≤_}
 use lib.ListN.{length, getD, take, drop}
 use mathlib.Core.List.{List, [], _∷_}
-use mathlib.Core.Path.{_≡_, sym, ap}
+use mathlib.Core.Path.{_≡_, ap}
 use native.Mathlib.Omega.{arith}
 use Rattle.std.proofs.shelf.Lists.{take-rest}
 use Rattle.std.specs.declared.result.Result.the-variants.{Ok}
-use Rattle.settext.specs.Place.{Read, Place, after, next-byte}
+use Rattle.settext.specs.Place.{Read, after, next-byte}
 use Rattle.settext.specs.declared.fault.Position.{Position}
 
 -- what a slice of at least one byte gives

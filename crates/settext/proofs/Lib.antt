@@ -2,3 +2,15 @@ pub mod Bytes
 pub mod Notes
 pub mod Shrinks
 pub mod Turns
+pub mod Shapes
+pub mod Fronts
+pub mod Numbers
+pub mod Fields
+pub mod Remarks
+pub mod Stands
+pub mod Breaks
+pub mod Sorts
+pub mod Rooms
+pub mod LineLaw
+pub mod LineTaken
+pub mod TextLaw

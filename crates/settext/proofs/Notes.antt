@@ -1,13 +1,13 @@
 -- The steps of the loop that reads a note. Assumes nothing.
 use Prim.Native.Nat.{ℕ}
 use lib.Dec.{eqb}
-use mathlib.Core.Bool.{cond, true, false}
+use mathlib.Core.Bool.{cond}
 use mathlib.Core.List.{List, [], _∷_}
 use mathlib.Core.Path.{_≡_, refl, sym, _∙_}
 use Rattle.std.proofs.shelf.Tests.{ne-eqb, eq-eqb}
 use Rattle.std.specs.declared.result.Result.the-variants.{Ok, Err}
 use Rattle.settext.specs.Items.{note-at, note-from}
-use Rattle.settext.specs.Place.{Place, Read, _then_, next-byte, byte-at}
+use Rattle.settext.specs.Place.{Place, _then_, next-byte, byte-at}
 use Rattle.settext.specs.declared.fault.Position.{Position}
 use Rattle.settext.specs.declared.fault.TextFault.{TextFault}
 

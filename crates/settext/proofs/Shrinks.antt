@@ -1,16 +1,24 @@
 -- A line leaves less of the text than there was. Assumes nothing.
 use Prim.Native.Nat.{ℕ, suc, _-_, _≤_, _<_}
-use lib.Dec.{eqb, leb, ltb}
+use lib.Dec.{eqb, leb}
 use lib.ListN.{length}
-use mathlib.Core.Bool.{Bool, true, false, cond, _&&_, _||_}
+use mathlib.Core.Bool.{Bool, true, false, cond, _||_}
 use mathlib.Core.List.{List, [], _∷_}
-use mathlib.Core.Path.{_≡_, sym, subst}
+use mathlib.Core.Path.{_≡_, sym, ap, subst}
 use native.Mathlib.Omega.{arith}
+use Rattle.std.proofs.shelf.Lists.{length-append}
 use Rattle.std.specs.declared.result.Result.the-variants.{Ok, Err}
 use Rattle.transducers.specs.declared.tile.Tile.{Tile}
-use Rattle.settext.specs.Items.{expect-at, digit-at, digit-next, is-digit, more-at, number-at, note-at, note-from, field-at, number-line-at, tile-line-at}
-use Rattle.settext.specs.Lines.{State, kind-at, tile-at, turn-at, line-at}
-use Rattle.settext.specs.Place.{Place, Read, _then_, next-byte, byte-at, after}
+use Rattle.settext.proofs.Fields as numbers
+use Rattle.settext.proofs.Fields.{Sane, Fields, fields-cases}
+use Rattle.settext.proofs.Numbers.{place}
+use Rattle.settext.proofs.Remarks as remarks
+use Rattle.settext.proofs.Remarks.{Remark, remark-cases}
+use Rattle.settext.proofs.Sorts.{piles, rows, tiles}
+use Rattle.settext.specs.Grammar.{fields}
+use Rattle.settext.specs.Items.{note-at, note-from, fields-at}
+use Rattle.settext.specs.Lines.{State, kind-at, number-line-at, colours, tile-line-at, tile-at, turn-at, line-at}
+use Rattle.settext.specs.Place.{Place, Read, _then_, next-byte, byte-at}
 use Rattle.settext.specs.declared.fault.Position.{Position}
 use Rattle.settext.specs.declared.line.LineKind.{LineKind}
 use Rattle.settext.specs.declared.line.LineKind.the-variants as kind
@@ -36,63 +44,39 @@ module _ (n : ℕ) where
   within-byte [] at h = tt
   within-byte (b ∷ bs) at h = omega arith
 
-  within-expect : (due : ℕ) (p : Place) → length (p .rest) ≤ n → Within n (expect-at due p)
-  within-expect due p h =
-      within-then (byte-at p) _ (within-byte (p .rest) (p .at) (omega arith)) (λ b q k. within-cond (eqb b due) _ _ k tt)
+  after-note : (bs : List ℕ) (at : Position) → length bs ≤ n → Remark bs at → Within n (note-from bs at)
+  after-note bs at h (remarks.ends none e) = rw e tt
+  after-note bs at h (remarks.whole said rest none is e) = rw e (omega (arith, ap length is, length-append said (10 ∷ rest)))
 
-  within-digit : (p : Place) → length (p .rest) ≤ n → Within n (digit-at p)
-  within-digit p h =
-      within-then (byte-at p) _ (within-byte (p .rest) (p .at) (omega arith)) (λ b q k. within-cond (is-digit b) _ _ k tt)
+  after-fields : (ranges : List (ℕ × ℕ)) (bs : List ℕ) (at : Position) → length bs ≤ n → Fields ranges bs at
+      → Within n (fields-at ranges (place bs at))
+  after-fields ranges bs at h (numbers.ends ns more in′ begins some e) = rw e tt
+  after-fields ranges bs at h (numbers.other head b rest is ns more in′ begins some none e) = rw e tt
+  after-fields ranges bs at h (numbers.outside head front ends m rest short is ns more in′ begins some none e) = rw e tt
+  after-fields ranges bs at h (numbers.whole ns rest in′ is e) = rw e (omega (arith, ap length is, length-append (fields ns) rest))
 
-  within-more : (m : ℕ) (p : Place) → length (p .rest) ≤ n → Within n (more-at m p)
-  within-more m p h =
-      within-cond (ltb 0 m && digit-next (p .rest)) _ _ (within-then (digit-at p) _ (within-digit p h) (λ d q k. k)) h
-
-  within-number : (low high : ℕ) (p : Place) → length (p .rest) ≤ n → Within n (number-at low high p)
-  within-number low high p h =
-      within-then (digit-at p then more-at then more-at) _
-      (within-then (digit-at p then more-at) _ (within-then (digit-at p) _ (within-digit p h) within-more) within-more)
-      (λ m q k. within-cond (leb low m && leb m high) _ _ k tt)
-
-  within-note : (bs : List ℕ) (at : Position) → length bs ≤ n → Within n (note-from bs at)
-  unfolding note-from
-  within-note [] at h = tt
-  within-note (b ∷ bs) at h =
-      within-cond (eqb b 10) _ _ (omega arith) (within-note bs (after at b) (omega arith))
-
-  within-field : (low high : ℕ) (p : Place) → length (p .rest) ≤ n → Within n (field-at low high p)
-  within-field low high p h =
-      within-then (expect-at 32 p) _ (within-expect 32 p h) (λ _ q k. within-number low high q k)
-
-  within-number-line : (low high : ℕ) (p : Place) → length (p .rest) ≤ n → Within n (number-line-at low high p)
-  within-number-line low high p h =
-      within-then (field-at low high p) _ (within-field low high p h)
-      (λ m q k. within-then (expect-at 10 q) _ (within-expect 10 q k) (λ _ e j. j))
-
-  within-tile-line : (p : Place) → length (p .rest) ≤ n → Within n (tile-line-at p)
-  within-tile-line p h =
-      within-then (field-at 0 255 p) _ (within-field 0 255 p h) (λ w q k.
-      within-then (field-at 0 255 q) _ (within-field 0 255 q k) (λ e r l.
-      within-then (field-at 0 255 r) _ (within-field 0 255 r l) (λ s u m.
-      within-then (field-at 0 255 u) _ (within-field 0 255 u m) (λ n v o.
-      within-then (expect-at 10 v) _ (within-expect 10 v o) (λ _ z i. i)))))
+  within-fields : (ranges : List (ℕ × ℕ)) → Sane ranges → (p : Place) → length (p .rest) ≤ n → Within n (fields-at ranges p)
+  within-fields ranges sane p h = after-fields ranges (p .rest) (p .at) h (fields-cases ranges sane (p .rest) (p .at))
 
   within-tile : (pile count : ℕ) (ts : List Tile) (start : Position) (p : Place) → length (p .rest) ≤ n
       → Within n (tile-at pile count ts start p)
   within-tile pile count ts start p h =
       within-cond (leb (length ts) count || leb 1024 count) _ _ tt
-      (within-then (tile-line-at p) _ (within-tile-line p h) (λ _ q k. k))
+      (within-then (tile-line-at p) _ (within-then (fields-at colours p) _ (within-fields colours (tiles .sane) p h) (λ _ q k. k)) (λ _ q k. k))
 
   within-turn : (kind : LineKind) (stage : Stage) (ts : List Tile) (start : Position) (p : Place) → length (p .rest) ≤ n
       → Within n (turn-at kind stage ts start p)
   within-turn kind.Blank stage ts start p h = h
-  within-turn kind.Note stage ts start p h = within-then (note-at p) _ (within-note (p .rest) (p .at) h) (λ _ q k. k)
-  within-turn kind.Pile Empty ts start p h = within-then (number-line-at 1 6 p) _ (within-number-line 1 6 p h) (λ _ q k. k)
+  within-turn kind.Note stage ts start p h =
+      within-then (note-at p) _ (after-note (p .rest) (p .at) h (remark-cases (p .rest) (p .at))) (λ _ q k. k)
+  within-turn kind.Pile Empty ts start p h =
+      within-then (number-line-at 1 6 p) _ (within-then (fields-at ((1, 6) ∷ []) p) _ (within-fields ((1, 6) ∷ []) (piles .sane) p h) (λ _ q k. k)) (λ _ q k. k)
   within-turn kind.Pile (Piled pile) ts start p h = tt
   within-turn kind.Pile (Rowed pile row) ts start p h = tt
   within-turn kind.Pile (Tiled pile count) ts start p h = tt
   within-turn kind.Row Empty ts start p h = tt
-  within-turn kind.Row (Piled pile) ts start p h = within-then (number-line-at 1 8 p) _ (within-number-line 1 8 p h) (λ _ q k. k)
+  within-turn kind.Row (Piled pile) ts start p h =
+      within-then (number-line-at 1 8 p) _ (within-then (fields-at ((1, 8) ∷ []) p) _ (within-fields ((1, 8) ∷ []) (rows .sane) p h) (λ _ q k. k)) (λ _ q k. k)
   within-turn kind.Row (Rowed pile row) ts start p h = tt
   within-turn kind.Row (Tiled pile count) ts start p h = tt
   within-turn kind.Tile Empty ts start p h = tt
@@ -107,7 +91,7 @@ module _ (n : ℕ) where
       (within-cond (eqb b 35) _ _ k (within-cond (eqb b 10) _ _ k tt)))))
 
   -- a line takes at least a byte
-  pub within-line : (s : State) (p : Place) → length (p .rest) ≤ suc n → Within n (line-at s p)
+  within-line : (s : State) (p : Place) → length (p .rest) ≤ suc n → Within n (line-at s p)
   within-line s p h =
       within-then (kind-at p) _ (within-kind p h) (λ kind q k. within-turn kind (s .stage) (s .tiles) (p .at) q k)
 

@@ -1,17 +1,20 @@
 -- The steps of the loop over the lines. Assumes nothing.
 use Prim.Native.Nat.{ℕ, zero, suc, _≤_, _<_}
 use lib.ListN.{length}
-use mathlib.Core.Bool.{Bool, true, false, cond}
+use mathlib.Core.Bool.{true, false}
 use mathlib.Core.List.{List, [], _∷_}
-use mathlib.Core.Path.{_≡_, refl, sym}
+use mathlib.Core.Path.{_≡_, refl}
 use native.Mathlib.Omega.{arith}
 use Rattle.std.specs.declared.result.Result.the-variants.{Ok, Err}
+use Rattle.std.proofs.shelf.Tests.{le-leb}
+use Rattle.transducers.specs.declared.tile.Tile.{Tile}
+use Rattle.settext.specs.declared.line.Stage.the-variants.{Empty}
 use Rattle.settext.proofs.Shrinks.{line-shrinks}
-use Rattle.settext.specs.Lines.{State, Outcome, said, is-empty, go-on, lines, line-at}
-use Rattle.settext.specs.Place.{Place}
+use Rattle.settext.specs.Lines.{State, set-text, Outcome, said, is-empty, lines, line-at}
+use Rattle.settext.specs.Place.{Place, start-of}
 use Rattle.settext.specs.declared.fault.TextFault.{TextFault}
 
-some-left : (bs : List ℕ) → 0 < length bs → is-empty bs ≡ false
+pub some-left : (bs : List ℕ) → 0 < length bs → is-empty bs ≡ false
 some-left [] h = absurd (omega arith)
 some-left (b ∷ bs) h = refl
 
@@ -22,6 +25,11 @@ none-left (b ∷ bs) h = absurd (omega arith)
 -- enough turns are left for what is left of the text, and they come to the outcome
 abbrev pub Comes : State → Place → Outcome → Type 0
 Comes s p o = (n : ℕ) × (length (p .rest) ≤ n) × (lines n s p ≡ o)
+
+pub comes-start : (bs : List ℕ) (ts : List Tile) (p : Place) → p ≡ start-of bs → length bs ≤ 65535
+    → Comes (record { stage = Empty; tiles = ts }) p (set-text bs ts)
+comes-start bs ts p is short =
+    rw is (length bs, omega arith, rw (le-leb (length bs) 65535 short))
 
 pub comes-more : (s t : State) (p q : Place) (o : Outcome) → 0 < length (p .rest) → Ok (t, q) ≡ line-at s p
     → Comes s p o → Comes t q o

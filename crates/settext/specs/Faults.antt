@@ -1,6 +1,5 @@
 -- The number and the position of each fault. Assumes nothing.
 use Prim.Native.Nat.{ℕ}
-use Rattle.settext.specs.declared.fault.Position.{Position}
 use Rattle.settext.specs.declared.fault.TextFault.{TextFault}
 use Rattle.settext.specs.declared.fault.TextFault.the-variants.{Start, Byte, Range, Turn, Full, Ends, Long}
 

@@ -4,7 +4,6 @@ use lib.Dec.{eqb, leb, ltb}
 use mathlib.Core.Bool.{Bool, false, cond, _&&_}
 use mathlib.Core.List.{List, [], _∷_}
 use Rattle.std.specs.declared.result.Result.the-variants.{Ok, Err}
-use Rattle.transducers.specs.declared.tile.Tile.{Tile}
 use Rattle.settext.specs.Place.{Place, Read, _then_, byte-at, after}
 use Rattle.settext.specs.declared.fault.Position.{Position}
 use Rattle.settext.specs.declared.fault.TextFault.the-variants.{Byte, Range, Ends}
@@ -47,12 +46,8 @@ note-at p = note-from (p .rest) (p .at)
 abbrev pub field-at : ℕ → ℕ → Place → Read ℕ
 field-at low high p = expect-at 32 p then λ _ q. number-at low high q
 
--- the rest of a line that has one number
-abbrev pub number-line-at : ℕ → ℕ → Place → Read ℕ
-number-line-at low high p = field-at low high p then λ n q. expect-at 10 q then λ _ e. Ok (n, e)
-
--- the rest of a line that has a tile: the colours of its west, east, south and north edge
-abbrev pub tile-line-at : Place → Read Tile
-tile-line-at p =
-    field-at 0 255 p then λ w q. field-at 0 255 q then λ e r. field-at 0 255 r then λ s u. field-at 0 255 u then λ n v.
-    expect-at 10 v then λ _ z. Ok (record { west = w; east = e; south = s; north = n }, z)
+-- the rest of a line: a space and a number for each range, and a line feed
+abbrev pub fields-at : List (ℕ × ℕ) → Place → Read (List ℕ)
+fields-at [] p = expect-at 10 p then λ _ q. Ok ([], q)
+fields-at (range ∷ ranges) p =
+    field-at (range .0) (range .1) p then λ n q. fields-at ranges q then λ ns r. Ok (n ∷ ns, r)

@@ -3,3 +3,5 @@ pub mod Place
 pub mod Items
 pub mod Lines
 pub mod Readers
+pub mod Grammar
+pub mod Law

@@ -1,14 +1,14 @@
 -- The lines of a set text. Assumes nothing.
 use Prim.Native.Nat.{ℕ, zero, suc, _+_}
 use lib.Dec.{eqb, leb}
-use lib.ListN.{length, set}
+use lib.ListN.{length, getD, set}
 use mathlib.Core.Bool.{Bool, true, false, cond, _||_}
 use mathlib.Core.List.{List, [], _∷_}
 use Rattle.std.specs.declared.result.Result.{Result}
 use Rattle.std.specs.declared.result.Result.the-variants.{Ok, Err}
 use Rattle.transducers.specs.declared.tile.Tile.{Tile}
-use Rattle.settext.specs.Items.{number-line-at, tile-line-at, note-at}
-use Rattle.settext.specs.Place.{Place, Read, _then_, byte-at}
+use Rattle.settext.specs.Items.{fields-at, note-at}
+use Rattle.settext.specs.Place.{Place, start-of, Read, _then_, byte-at}
 use Rattle.settext.specs.declared.fault.Position.{Position}
 use Rattle.settext.specs.declared.fault.TextFault.{TextFault}
 use Rattle.settext.specs.declared.fault.TextFault.the-variants as fault
@@ -27,6 +27,22 @@ kind-at p = byte-at p then λ b q.
     (cond (eqb b 35) (Ok (kind.Note, q))
     (cond (eqb b 10) (Ok (kind.Blank, q))
     (Err (fault.Start (p .at)))))))
+
+-- the rest of a line of one number
+abbrev pub number-line-at : ℕ → ℕ → Place → Read ℕ
+number-line-at low high p = fields-at ((low, high) ∷ []) p then λ ns q. Ok (getD ns 0 0, q)
+
+-- the ranges of a tile's colours
+abbrev pub colours : List (ℕ × ℕ)
+colours = (0, 255) ∷ (0, 255) ∷ (0, 255) ∷ (0, 255) ∷ []
+
+-- the tile of four numbers: its west, east, south and north
+abbrev pub tile-of : List ℕ → Tile
+tile-of ns = record { west = getD ns 0 0; east = getD ns 1 0; south = getD ns 2 0; north = getD ns 3 0 }
+
+-- the rest of a line of a tile
+abbrev pub tile-line-at : Place → Read Tile
+tile-line-at p = fields-at colours p then λ ns q. Ok (tile-of ns, q)
 
 -- what the lines so far have said, and the caller's list, which they have filled from the front
 pub record State : Type 0 where
@@ -83,16 +99,18 @@ abbrev pub go-on : Read State → List Tile → (State → Place → Outcome) �
 go-on (Ok got) ts next = next (got .0) (got .1)
 go-on (Err f) ts next = record { answer = Err f; tiles = ts }
 
+-- the text ends here
+abbrev pub ended : State → Place → Outcome
+ended s p = record { answer = said (s .stage) (p .at); tiles = s .tiles }
+
 -- the lines of the text from here on, of which there are at most n
 unfoldable pub lines : ℕ → State → Place → Outcome
-lines zero s p = record { answer = said (s .stage) (p .at); tiles = s .tiles }
-lines (suc n) s p =
-    cond (is-empty (p .rest)) (record { answer = said (s .stage) (p .at); tiles = s .tiles })
-    (go-on (line-at s p) (s .tiles) (lines n))
+lines zero s p = ended s p
+lines (suc n) s p = cond (is-empty (p .rest)) (ended s p) (go-on (line-at s p) (s .tiles) (lines n))
 
 -- a set text, read into a list
 abbrev pub set-text : List ℕ → List Tile → Outcome
 set-text bs ts =
     cond (leb (length bs) 65535)
-    (lines (length bs) (record { stage = Empty; tiles = ts }) (record { rest = bs; at = record { line = 1; column = 1 } }))
+    (lines (length bs) (record { stage = Empty; tiles = ts }) (start-of bs))
     (record { answer = Err fault.Long; tiles = ts })

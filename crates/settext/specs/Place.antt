@@ -15,6 +15,10 @@ pub record Place : Type 0 where
   pub rest : List ℕ
   pub at : Position
 
+-- the start of a text
+abbrev pub start-of : List ℕ → Place
+start-of bs = record { rest = bs; at = record { line = 1; column = 1 } }
+
 -- the position after a byte: a line feed ends its line
 abbrev pub after : Position → ℕ → Position
 after at b = cond (eqb b 10) (record { line = at .line + 1; column = 1 }) (record { line = at .line; column = at .column + 1 })

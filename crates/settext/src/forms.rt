@@ -1,7 +1,7 @@
 // The forms of the lines.
 ghost use mathlib.Core.Path.{_≡_};
-ghost use Rattle.settext.specs.Items.{field-at, number-line-at, tile-line-at};
-ghost use Rattle.settext.specs.Lines.{kind-at};
+ghost use Rattle.settext.specs.Items.{field-at};
+ghost use Rattle.settext.specs.Lines.{kind-at, number-line-at, tile-line-at};
 ghost use Rattle.settext.specs.Place.{here, reading};
 use crate::cursor::Cursor;
 use crate::fault::TextFault;

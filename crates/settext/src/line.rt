@@ -18,8 +18,12 @@ pub(crate) enum LineKind {
 // What the lines so far have said.
 #[derive(Clone, Copy)]
 pub(crate) enum Stage {
+    // nothing
     Empty,
+    // the pile
     Piled(u8),
+    // the pile and the row
     Rowed(u8, u8),
+    // the pile and so many tiles
     Tiled(u8, u16),
 }

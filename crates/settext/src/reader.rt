@@ -1,5 +1,6 @@
 // Reads a set text line by line.
 ghost use mathlib.Core.Path.{_≡_};
+ghost use Rattle.settext.specs.Law.{Law};
 ghost use Rattle.settext.specs.Lines.{tile-at, line-at, said, set-text};
 ghost use Rattle.settext.specs.Place.{here};
 ghost use Rattle.settext.specs.Readers.{state-of, stepped};
@@ -55,13 +56,12 @@ impl Reader<'_> {
         match (self.stage, kind) {
             (_, LineKind::Blank) => {}
             (_, LineKind::Note) => self.cursor.note()?,
-            (Stage::Empty, LineKind::Pile) => self.stage = Stage::Piled(
-                self.cursor.number_line(1, 6)?,
-            ),
-            (Stage::Piled(pile), LineKind::Row) => self.stage = Stage::Rowed(
-                pile,
-                self.cursor.number_line(1, 8)?,
-            ),
+            (Stage::Empty, LineKind::Pile) => {
+                self.stage = Stage::Piled(self.cursor.number_line(1, 6)?);
+            }
+            (Stage::Piled(pile), LineKind::Row) => {
+                self.stage = Stage::Rowed(pile, self.cursor.number_line(1, 8)?);
+            }
             (Stage::Piled(pile), LineKind::Tile) => self.tile(pile, 0, start, tiles)?,
             (Stage::Tiled(pile, count), LineKind::Tile) => self.tile(pile, count, start, tiles)?,
             _ => return Err(TextFault::Turn(start)),
@@ -93,13 +93,13 @@ impl Reader<'_> {
 pub fn read_set(text: &[u8], tiles: &mut [Tile]) -> Result<SetText, TextFault>
     ensures answers { λ r. ⌜ r ≡ set-text (now (text .entry)) (now (tiles .entry)) .answer ⌝ }
     ensures fills { λ _. ⌜ now (tiles .exit) ≡ set-text (now (text .entry)) (now (tiles .entry)) .tiles ⌝ }
+    ensures law { λ r. ⌜ Law (now (text .entry)) (now (tiles .entry)) r (now (tiles .exit)) ⌝ }
 {
     if text.len() > MOST_BYTES {
         return Err(TextFault::Long);
     }
-    let at = Position { line: 1, column: 1 };
     let mut reader = Reader {
-        cursor: Cursor { rest: text, at },
+        cursor: Cursor::new(text),
         stage: Stage::Empty,
     };
     while !reader.cursor.rest.is_empty() {

@@ -1,9 +1,9 @@
 // Reads a text byte by byte, and by the items of its lines.
 ghost use mathlib.Core.Path.{_≡_};
-ghost use mathlib.Core.Bool.{cond};
 ghost use Prim.Native.Nat.{_+_, _*_, _<_, _≤_};
+ghost use lib.ListN.{length};
 ghost use Rattle.std.specs.Vec.{made};
-ghost use Rattle.settext.specs.Place.{after, byte-at, here, reading};
+ghost use Rattle.settext.specs.Place.{start-of, after, byte-at, here, reading};
 ghost use Rattle.settext.specs.Items.{expect-at, digit-at, digit-next, more-at, number-at, note-at};
 use crate::cursor::Cursor;
 use crate::fault::Position;
@@ -27,7 +27,17 @@ fn after_byte(at: Position, byte: u8) -> Position
     }
 }
 
-impl Cursor<'_> {
+impl<'a> Cursor<'a> {
+    pub(crate) fn new(text: &'a [u8]) -> Cursor<'a>
+        requires { ⌜ length (now text) ≤ 65535 ⌝ }
+        ensures { λ r. ⌜ here r ≡ start-of (now (text .entry)) ⌝ }
+    {
+        Cursor {
+            rest: text,
+            at: Position { line: 1, column: 1 },
+        }
+    }
+
     // The next byte, which the text has to have.
     pub(crate) fn byte(&mut self) -> Result<u8, TextFault>
         ensures { λ r. ⌜ reading r (now (self .exit)) ≡ byte-at (here (now (self .entry))) ⌝ }

@@ -39,8 +39,8 @@ module _ (f : Tile → ℕ) where
   greatest-attained (t ∷ u ∷ ts) d some =
       let rest = greatest-attained (u ∷ ts) d (omega arith) in
       elim (cases-lt (f t) (greatest f (u ∷ ts))) [
-        inl lt ↦ (suc (rest .0), omega (arith, rest .1), omega (arith, rest .2))
-      | inr ge ↦ (0, omega arith, omega arith)
+        | inl lt ↦ (suc (rest .0), omega (arith, rest .1), omega (arith, rest .2))
+        | inr ge ↦ (0, omega arith, omega arith)
       ]
 
   pub one-more : (ts : List Tile) (n : ℕ) → 1 ≤ length ts → n ≡ greatest f ts + 1 → OneMore f ts n

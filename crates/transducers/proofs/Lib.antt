@@ -4,3 +4,11 @@ pub mod Multipliers
 pub mod Stacks
 pub mod Balance
 pub mod LowestTerms
+pub mod Trimming
+pub mod HowMany
+pub mod Linking
+pub mod Draining
+pub mod Unlinking
+pub mod Linked
+pub mod Thriving
+pub mod Common

@@ -7,3 +7,7 @@ pub mod Catalogue
 pub mod CatalogueMade
 pub mod Held
 pub mod Multiplying
+pub mod Trimming
+pub mod Draining
+pub mod Drains
+pub mod Linking

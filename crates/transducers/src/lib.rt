@@ -1,12 +1,15 @@
 // Transducers: graphs whose edges carry letters. A set of Wang tiles is one.
 mod catalogue;
 mod counts;
+mod drain;
 mod fault;
+mod links;
 mod list;
 mod multiplier;
 mod stack;
 mod tile;
 mod transducer;
+mod trim;
 mod turn;
 
 pub use catalogue::CatalogueTransducer;
@@ -24,5 +27,7 @@ pub use stack::Stack;
 pub use stack::StackIsTransducer;
 pub use tile::Tile;
 pub use transducer::Transducer;
+pub use trim::Trim;
+pub use trim::TrimIsTransducer;
 pub use turn::Turn;
 pub use turn::TurnIsTransducer;

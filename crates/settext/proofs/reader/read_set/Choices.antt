@@ -1,5 +1,4 @@
 use lib.ListN.{length}
-use mathlib.Core.Path.{_≡_}
 use Rattle.settext.proofs.Turns.{Comes}
 use Rattle.settext.specs.Lines.{set-text}
 use Rattle.settext.specs.Place.{here}

@@ -1,0 +1,3 @@
+pub mod PilesKept
+pub mod Sampled
+pub mod TrimmedA
