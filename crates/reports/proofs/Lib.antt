@@ -1,3 +1,5 @@
 pub mod PilesKept
 pub mod Sampled
 pub mod TrimmedA
+pub mod Feeds
+pub mod Only

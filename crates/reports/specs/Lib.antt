@@ -3,3 +3,4 @@ pub mod PileFaults
 pub mod Piles
 pub mod SetDockets
 pub mod Samples
+pub mod Excerpts

@@ -1,10 +1,13 @@
-// What judge says: a line for each refusal and for each paper.
+// What judge says: a line for each refusal and for each paper, the part that a refusal blames, and the piles of set texts.
+mod excerpts;
 mod lines;
 mod pile;
 mod pile_fault;
 mod samples;
 mod set_docket;
 
+pub use excerpts::Refusal;
+pub use excerpts::excerpt;
 pub use lines::paper_line;
 pub use lines::pile_line;
 pub use lines::set_line;
@@ -19,3 +22,6 @@ pub use pile_fault::PileFromRow;
 pub use pile_fault::PileFromStack;
 pub use samples::samples_stand;
 pub use set_docket::SetDocket;
+
+#[cfg(test)]
+mod tests;

@@ -1,113 +1,67 @@
--- What is left of both drains, forward and backward, is the largest set that thrives. Assumes nothing.
-use Prim.Native.Nat.{ℕ, _≤_}
+-- The states from which edges go on for ever both ways are the largest set that thrives. Assumes nothing.
+use Prim.Native.Nat.{ℕ}
 use lib.Dec.{eqb}
-use mathlib.Core.Bool.{Bool, true, _&&_, _||_}
-use lib.ListN.{length}
-use mathlib.Core.List.{List, map}
+use mathlib.Core.Bool.{true, _&&_, _||_}
 use mathlib.Core.Logic.{inl, inr}
 use mathlib.Core.Path.{_≡_, refl, sym, ap, fun-ext, _∙_, subst}
-use native.Mathlib.Omega.{arith}
-use Rattle.std.proofs.shelf.Lists.{length-map, refilled-is}
 use Rattle.std.proofs.shelf.Tests.{and-from, and-parts, eq-eqb, eqb-true, or-cases, or-left, or-right}
-use Rattle.std.specs.Changed.{refilled}
-use Rattle.std.specs.Of.Vec.{vec-items}
-use Rattle.std.specs.declared.alloc.Global.{Global}
-use Rattle.std.specs.declared.vec.Vec.{Vec}
 use Rattle.std.specs.declared.option.Option.the-variants.{Some}
-use Rattle.transducers.specs.Draining.{Lasting, Left, LinkTo, Within, link}
-use Rattle.transducers.specs.Linking.{links-below, turned}
-use Rattle.transducers.specs.Meaning.{Edge, Meaning, Valid, from, to}
-use Rattle.transducers.specs.Trimming.{Largest, States, Thriving, listed}
-use Rattle.transducers.specs.declared.links.Link.{Link}
-use Rattle.transducers.proofs.Linked.{Stands, links-few, stands-forward, stands-turned, stands-within}
+use Rattle.transducers.specs.Lasting.{GoesOn, LargestBy, end, start}
+use Rattle.transducers.specs.Meaning.{Edge, Meaning, from, to}
+use Rattle.transducers.specs.Trimming.{Largest, States, Thriving}
+use Rattle.transducers.specs.declared.links.Way.{Way}
+use Rattle.transducers.specs.declared.links.Way.the-variants.{Forward, Backward}
 
--- an edge from q, by its end `src`, to a state of S
-abbrev EdgeTo : Meaning → (Edge → ℕ) → (Edge → ℕ) → States → ℕ → Type 0
-EdgeTo m src dst S q = (i : ℕ) × (e : Edge) × (m .edge i ≡ Some e) × (src e ≡ q) × (S (dst e) ≡ true)
+-- the other way
+abbrev back : Way → Way
+back Forward = Backward
+back Backward = Forward
 
-module _ (m : Meaning) (src dst : Edge → ℕ) (ls : List Link) (stands : Stands m src dst ls) where
-  edge-to : (S : States) (q : ℕ) → LinkTo ls S q → EdgeTo m src dst S q
-  edge-to S q by =
-      let f = stands .edge-of (by .0) (by .1) in
-      (f .0, f .1, f .2, sym (f .3) ∙ by .2, ap S (sym (f .4)) ∙ by .3)
+back-start : (w : Way) (e : Edge) → start (back w) e ≡ end w e
+back-start Forward e = refl
+back-start Backward e = refl
 
-  link-to : (S : States) (q : ℕ) → EdgeTo m src dst S q → LinkTo ls S q
-  link-to S q by =
-      let f = stands .link-of (by .0) (by .1) (by .2) in
-      (f .0, f .1, f .2 ∙ by .3, ap S (f .3) ∙ by .4)
+back-end : (w : Way) (e : Edge) → end (back w) e ≡ start w e
+back-end Forward e = refl
+back-end Backward e = refl
 
-  -- one state more lasts if it has a link to a state of B
-  more-lasts : (B : States) (p q : ℕ) → Lasting ls B → B q ≡ true → EdgeTo m src dst (λ x. eqb x q) p → Lasting ls (λ x. B x || eqb x p)
-  more-lasts B p q lasts in-B by x is =
+module _ (m : Meaning) (w : Way) where
+  -- one state more goes on if an edge leads from it to a state of B
+  more-goes-on : (B : States) (i p : ℕ) (e : Edge) → m .edge i ≡ Some e → start w e ≡ p → B (end w e) ≡ true → GoesOn m w B → GoesOn m w (λ x. B x || eqb x p)
+  more-goes-on B i p e at here in-B goes-on x is =
       elim (or-cases (B x) (eqb x p) is) [
-        | inl in-set ↦ let f = lasts x in-set in (f .0, f .1, f .2, or-left (B (link ls (f .0) .to)) _ (f .3))
-        | inr same ↦
-            let f = link-to (λ y. eqb y q) p by in
-            (f .0, f .1, f .2 ∙ sym (eqb-true x p same), or-left (B (link ls (f .0) .to)) _ (ap B (eqb-true _ q (f .3)) ∙ in-B))
+        | inl in-set ↦ let f = goes-on x in-set in (f .0, f .1, f .2, f .3, or-left (B (end w (f .1))) _ (f .4))
+        | inr same ↦ (i, e, at, here ∙ sym (eqb-true x p same), or-left (B (end w e)) _ in-B)
       ]
 
--- an edge between states of A leads into B too if it leaves a state of B: A is left forward, B is left backward
-module _ (m : Meaning) (src dst : Edge → ℕ) (ls back : List Link) (forward : Stands m src dst ls) (backward : Stands m dst src back) (A B : States) (left : Left ls A) (left-back : Left back B) where
-  in-both : (q : ℕ) → A q ≡ true → B q ≡ true → EdgeTo m src dst (λ x. A x && B x) q
-  in-both q in-A in-B =
-      let f = edge-to m src dst ls forward A q (left .lasts q in-A) in
-      let p = dst (f .1) in
-      let wider = more-lasts m dst src back backward B p q (left-back .lasts) in-B (f .0, f .1, f .2, refl, eq-eqb (src (f .1)) q (f .3)) in
-      (f .0, f .1, f .2, f .3, and-from (A p) (B p) (f .4) (left-back .largest (λ x. B x || eqb x p) wider p (or-right (B p) _ (eq-eqb p p refl))))
+-- an edge out of a state of both sets that leads into A leads into B: B goes on the other way
+module _ (m : Meaning) (w : Way) (A B : States) (one : LargestBy m w A) (other : LargestBy m (back w) B) where
+  into-both : (q : ℕ) → A q ≡ true → B q ≡ true → (i : ℕ) × (e : Edge) × (m .edge i ≡ Some e) × (start w e ≡ q) × (A (end w e) ≡ true) × (B (end w e) ≡ true)
+  into-both q in-A in-B =
+      let f = one .goes-on q in-A in
+      let e = f .1 in
+      let p = end w e in
+      let wider = more-goes-on m (back w) B (f .0) p e (f .2) (back-start w e) (ap B (back-end w e ∙ f .3) ∙ in-B) (other .goes-on) in
+      (f .0, e, f .2, f .3, f .4, other .largest (λ x. B x || eqb x p) wider p (or-right (B p) _ (eq-eqb p p refl)))
 
-module _ (m : Meaning) (ls back : List Link) (forward : Stands m from to ls) (backward : Stands m to from back) (A B : States) (left : Left ls A) (left-back : Left back B) where
+module _ (m : Meaning) (A B : States) (forth : LargestBy m Forward A) (back : LargestBy m Backward B) where
   both-thrive : Thriving m (λ q. A q && B q)
   both-thrive = record {
     edge-in = λ q is.
         let parts = and-parts (A q) (B q) is in
-        let f = in-both m to from back ls backward forward B A left-back left q (parts .1) (parts .0) in
-        let ends = and-parts (B (from (f .1))) _ (f .4) in
-        (f .0, f .1, f .2, f .3, and-from (A (from (f .1))) _ (ends .1) (ends .0));
-    edge-out = λ q is. let parts = and-parts (A q) (B q) is in in-both m from to ls back forward backward A B left left-back q (parts .0) (parts .1);
+        let f = into-both m Backward B A back forth q (parts .1) (parts .0) in
+        (f .0, f .1, f .2, f .3, and-from (A (from (f .1))) _ (f .5) (f .4));
+    edge-out = λ q is.
+        let parts = and-parts (A q) (B q) is in
+        let f = into-both m Forward A B forth back q (parts .0) (parts .1) in
+        (f .0, f .1, f .2, f .3, and-from (A (to (f .1))) _ (f .4) (f .5));
   }
 
-  pub both-largest : Largest m (λ q. A q && B q)
+  both-largest : Largest m (λ q. A q && B q)
   both-largest = record {
     thrives = both-thrive;
-    largest = λ S thrives q is.
-        and-from (A q) (B q)
-        (left .largest S (λ x in-S. link-to m from to ls forward S x (thrives .edge-out x in-S)) q is)
-        (left-back .largest S (λ x in-S. link-to m to from back backward S x (thrives .edge-in x in-S)) q is);
+    largest = λ S thrives q is. and-from (A q) (B q) (forth .largest S (thrives .edge-out) q is) (back .largest S (thrives .edge-in) q is);
   }
 
--- the links of a transducer, and the same turned round
-module _ (m : Meaning) (valid : Valid m) (ls : List Link) (is : ls ≡ links-below m (m .slots)) where
-  forth : Stands m from to ls
-  forth = subst (Stands m from to) (sym is) (stands-forward m valid)
-
-  pub few : length ls ≤ 1048576
-  few = omega (arith, ap length is, links-few m (m .slots), valid .few-slots)
-
-  pub within : Within (m .states) ls
-  within = stands-within m from to ls forth (λ i e at. let inside = valid .inside i e at in (inside .from-state, inside .to-state))
-
-  module _ (back : List Link) (turns : back ≡ map turned ls) where
-    back-stands : Stands m to from back
-    back-stands = subst (Stands m to from) (sym turns) (stands-turned m from to ls forth)
-
-    pub back-few : length back ≤ 1048576
-    back-few = omega (arith, ap length turns, length-map ls turned, few)
-
-    pub back-within : Within (m .states) back
-    back-within = stands-within m to from back back-stands (λ i e at. let inside = valid .inside i e at in (inside .to-state, inside .from-state))
-
-    pub common-largest : (A B kept : List Bool) → Left ls (listed A) → Left back (listed B) → ((q : ℕ) → listed kept q ≡ (listed A q && listed B q)) → Largest m (listed kept)
-    common-largest A B kept left left-back common =
-        subst (Largest m) (sym (fun-ext common)) (both-largest m ls back forth back-stands (listed A) (listed B) left left-back)
-
--- a list of links that was turned round in place
-pub turned-round : (links : Vec Link Global) (lent after back : List Link) → lent ≡ vec-items links → after ≡ map turned lent → back ≡ vec-items (refilled links after) → back ≡ map turned (vec-items links)
-turned-round links lent after back start turns end =
-    let round : after ≡ map turned (vec-items links) = turns ∙ ap (map turned) start in
-    end ∙ refilled-is links after (omega (arith, ap length round, length-map (vec-items links) turned, links .ok .0)) ∙ round
-
--- a list of states that was met with another in place
-pub common-in-place : (kept reached : Vec Bool Global) (lent other after : List Bool) → lent ≡ vec-items kept → other ≡ vec-items reached → length after ≡ length lent → ((q : ℕ) → listed after q ≡ (listed lent q && listed other q)) → (q : ℕ) → listed (vec-items (refilled kept after)) q ≡ (listed (vec-items kept) q && listed (vec-items reached) q)
-common-in-place kept reached lent other after is is-other size common q =
-    let end = refilled-is kept after (omega (arith, ap length is, kept .ok .0)) in
-    ap (λ ks. listed ks q) end ∙ common q ∙ ap (λ ks. listed ks q && listed other q) is ∙ ap (λ ks. listed (vec-items kept) q && listed ks q) is-other
+  pub common-largest : (K : States) → ((q : ℕ) → K q ≡ (A q && B q)) → Largest m K
+  common-largest K common = subst (Largest m) (sym (fun-ext common)) both-largest

@@ -11,3 +11,4 @@ pub mod Trimming
 pub mod Draining
 pub mod Drains
 pub mod Linking
+pub mod Lasting

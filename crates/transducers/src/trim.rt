@@ -3,11 +3,13 @@ ghost use mathlib.Core.Bool.{_&&_};
 ghost use mathlib.Core.Path.{_≡_};
 ghost use Prim.Native.Nat.{ℕ};
 ghost use lib.ListN.{length};
+ghost use Rattle.std.specs.Of.Vec.{vec-items, vec-len};
 ghost use Rattle.std.specs.Vec.{made};
+ghost use Rattle.transducers.specs.Lasting.{LargestBy};
 ghost use Rattle.transducers.specs.Trimming.{Largest, kept-set, listed, trim};
 use crate::drain::drain;
+use crate::links::Way;
 use crate::links::links_of;
-use crate::links::turn_round;
 use crate::transducer::Transducer;
 use std::alloc::AllocError;
 use std::alloc::Global;
@@ -17,6 +19,14 @@ use std::alloc::Global;
 pub struct Trim<T> {
     below: T,
     kept: Vec<bool>,
+}
+
+// The states from which edges can be followed for ever one way.
+fn lasting<T: Transducer>(heap: Global, below: &T, way: Way) -> Result<Vec<bool>, AllocError>
+    ensures { λ r. ⌜ made r (λ v. (vec-len v ≡ meaning (now (below .entry)) .states) × LargestBy (meaning (now (below .entry))) way (listed (vec-items v))) ⌝ }
+{
+    let links = links_of(heap, below, way)?;
+    drain(heap, below.states(), &links)
 }
 
 // Takes out of a list of states those that another list lacks.
@@ -29,17 +39,22 @@ fn keep_common(states: &mut [bool], other: &[bool])
     }
 }
 
+// The states from which edges can be followed for ever both ways.
+fn thriving<T: Transducer>(heap: Global, below: &T) -> Result<Vec<bool>, AllocError>
+    ensures { λ r. ⌜ made r (λ v. Largest (meaning (now (below .entry))) (listed (vec-items v))) ⌝ }
+{
+    let mut kept = lasting(heap, below, Way::Forward)?;
+    let reached = lasting(heap, below, Way::Backward)?;
+    keep_common(&mut kept, &reached);
+    Ok(kept)
+}
+
 impl<T: Transducer + Drop> Trim<T> {
-    // Keeps the states that can go on for ever in both directions.
+    // Keeps the largest set of states that thrives.
     pub fn new(heap: Global, below: T) -> Result<Trim<T>, AllocError>
         ensures { λ r. ⌜ made r (λ t. (t .below ≡ below) × Largest (meaning below) (kept-set t)) ⌝ }
     {
-        let states = below.states();
-        let mut links = links_of(heap, &below)?;
-        let mut kept = drain(heap, states, &links)?;
-        turn_round(&mut links);
-        let reached = drain(heap, states, &links)?;
-        keep_common(&mut kept, &reached);
+        let kept = thriving(heap, &below)?;
         Ok(Trim { below, kept })
     }
 }
