@@ -18,7 +18,10 @@ fn show<T: Transducer>(rt: &LibcRuntime, name: &str, t: &T) -> Result<(), AnyErr
     let states = t.states();
     let letters = t.letters();
     let slots = t.slots();
-    println!(rt, "{name}: {states} states {letters} letters {slots} slots")?;
+    println!(
+        rt,
+        "{name}: {states} states {letters} letters {slots} slots"
+    )?;
     for i in 0..=slots {
         if let Some((from, to, south, north)) = t.slot(i) {
             println!(rt, "{name} slot {i}: {from} {to} {south} {north}")?;
@@ -37,7 +40,13 @@ fn tile(west: u8, east: u8, south: u8, north: u8) -> Tile {
 }
 
 fn small_set(rt: &LibcRuntime) -> Result<ListTransducer, AnyError> {
-    let tiles = [tile(0, 1, 0, 1), tile(1, 0, 1, 0), tile(1, 2, 1, 1), tile(2, 2, 0, 3), tile(3, 0, 3, 1)];
+    let tiles = [
+        tile(0, 1, 0, 1),
+        tile(1, 0, 1, 0),
+        tile(1, 2, 1, 1),
+        tile(2, 2, 0, 3),
+        tile(3, 0, 3, 1),
+    ];
     match ListTransducer::new(rt.alloc(), &tiles) {
         Ok(set) => Ok(set),
         Err(_) => Err("no set".into()),
