@@ -1,5 +1,5 @@
 // The docket: one pile, the two widths, and tallies.
-ghost use Rattle.std.specs.Prelude.{◌≡◌, ◌≤◌, true, false, length, is_ok};
+ghost use Rattle.std.specs.Prelude.{◌≡◌, true, false, is_ok};
 ghost use Rattle.papers.specs.Paper.{contents_of, held, reading};
 ghost use Rattle.laws.specs.Accepted.{FilingLaw};
 ghost use Rattle.rules.specs.Filing.{ends_after, filing_answer, judged, weighed};
@@ -9,7 +9,7 @@ ghost use Rattle.rules.specs.Widths.{fresh_ends, moved};
 ghost use Rattle.rules.specs.declared.subject.Subject.TheVariants.{Of};
 
 use crate::tally::Tallies;
-use papers::{Numbers, Paper, PaperFault, read_paper};
+use papers::{Paper, PaperFault, read_paper};
 use rules::{Claim, DocketFault, Ends, Subject, Width, weigh};
 use transducers::Transducer;
 
@@ -31,14 +31,6 @@ fn initial_ends() -> Ends
         floor: Width::Number(0),
         ceiling: Width::Endless,
     }
-}
-
-// What a paper claims of a pile, or its first fault.
-fn claim_of<P: Transducer>(pile: &P, paper: &Paper<'_>) -> Result<Claim, DocketFault>
-    requires few { length (held paper.now).numbers ≤ 8064 }
-    ensures { result ≡ weighed (meaning pile.now) (held paper.now) }
-{
-    weigh(pile, paper.kind(), &Numbers::of(paper))
 }
 
 impl<P: Transducer> Docket<P> {
@@ -74,13 +66,12 @@ impl<P: Transducer> Docket<P> {
 
     // Holds a paper against the pile, and tallies it.
     fn weigh(&mut self, paper: &Paper<'_>) -> Result<Claim, DocketFault>
-        requires few { length (held paper.now).numbers ≤ 8064 }
         ensures answer { result ≡ weighed (meaning self.old.pile) (held paper.now) }
         ensures pile { self.new.pile ≡ self.old.pile }
         ensures ends { self.new.ends ≡ self.old.ends }
         ensures tallies { self.new.tallies.table ≡ tallied self.old.tallies.table (Of (held paper.now).kind) (is_ok result) }
     {
-        let claim = claim_of(&self.pile, paper);
+        let claim = weigh(&self.pile, paper);
         self.tallies.count(Subject::Of(paper.kind()), claim.is_ok());
         claim
     }

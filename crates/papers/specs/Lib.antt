@@ -4,4 +4,3 @@ pub mod Bytes
 pub mod Block
 pub mod Paper
 pub mod Form
-pub mod Numbers

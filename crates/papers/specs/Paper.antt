@@ -41,12 +41,9 @@ paper_verdict bs = must (whole_blocks bs) fault.Length then first (block_passes 
 abbrev pub paper_count : List ℕ → ℕ
 paper_count bs = 126 * (blocks bs - 1) + slice_index bs (512 * (blocks bs - 1) + 3)
 
--- the byte at which the number at a place of the paper stands; the places run through all blocks
-abbrev pub word_place : ℕ → ℕ
-word_place i = 512 * (i / 126) + 4 + 4 * (i % 126)
-
+-- the number at a place of the paper, whose places run through all blocks
 abbrev pub number_at : List ℕ → ℕ → ℕ
-number_at bs i = word bs (word_place i)
+number_at bs i = word bs (512 * (i / 126) + 4 + 4 * (i % 126))
 
 -- the first n numbers
 abbrev pub numbers : List ℕ → ℕ → List ℕ
@@ -57,17 +54,14 @@ pub record Contents : Type 0 where
   pub kind : Kind
   pub numbers : List ℕ
 
-abbrev pub saying : Kind → List ℕ → Contents
-saying kind xs = record { kind = kind; numbers = xs }
-
 -- the contents of the bytes, or their first fault
 abbrev pub contents_of : List ℕ → Result Contents PaperFault
 contents_of bs =
-    answered (paper_verdict bs) (saying (kind_of (kind_byte bs)) (numbers bs (paper_count bs)))
+    answered (paper_verdict bs) (record { kind = kind_of (kind_byte bs); numbers = numbers bs (paper_count bs) })
 
 -- what a paper that was read holds
 abbrev pub held : Paper → Contents
-held p = saying p.kind (numbers p.bytes.now p.count)
+held p = record { kind = p.kind; numbers = numbers p.bytes.now p.count }
 
 -- what a reading answered, by its contents
 abbrev pub reading : Result Paper PaperFault → Result Contents PaperFault

@@ -2,12 +2,10 @@
 mod block;
 mod fault;
 mod kind;
-mod numbers;
 mod paper;
 mod words;
 
 pub use block::{Block, read_block};
 pub use fault::{BlockFault, PaperFault};
 pub use kind::Kind;
-pub use numbers::Numbers;
 pub use paper::{Paper, read_paper};

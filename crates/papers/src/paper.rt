@@ -18,9 +18,9 @@ const MOST_BLOCKS: usize = 64;
 // A paper that was read: its kind, its bytes, and how many numbers they hold.
 #[derive(Clone, Copy)]
 pub struct Paper<'a> {
-    pub(crate) bytes: &'a [u8],
+    bytes: &'a [u8],
     kind: Kind,
-    pub(crate) count: u16,
+    count: u16,
 }
 
 impl Paper<'_> {

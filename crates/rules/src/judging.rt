@@ -1,7 +1,6 @@
 // What a paper that was read shows of a transducer.
 ghost use Rattle.std.specs.Prelude.{◌≡◌};
-ghost use Rattle.papers.specs.Numbers.{listed};
-ghost use Rattle.papers.specs.Paper.{saying};
+ghost use Rattle.papers.specs.Paper.{held};
 ghost use Rattle.rules.specs.Filing.{weighed};
 ghost use Rattle.rules.specs.Widths.{moved, narrower, wider};
 
@@ -10,28 +9,28 @@ use crate::ranks::check_ranking;
 use crate::rows::{check_ring, check_strip};
 use crate::torus::check_torus;
 use crate::width::{Claim, Ends, Width};
-use papers::{Kind, Numbers};
+use papers::{Kind, Paper};
 use transducers::Transducer;
 
-// What the numbers of a paper of this kind claim, if they keep its rule, or else their first fault.
-pub fn weigh<P: Transducer>(pile: &P, kind: Kind, numbers: &Numbers) -> Result<Claim, DocketFault>
-    ensures { result ≡ weighed (meaning pile.now) (saying kind (listed numbers.now)) }
+// The claim of a paper that keeps the rule of its kind, or its first fault.
+pub fn weigh<P: Transducer>(pile: &P, paper: &Paper<'_>) -> Result<Claim, DocketFault>
+    ensures { result ≡ weighed (meaning pile.now) (held paper.now) }
 {
-    match kind {
+    match paper.kind() {
         Kind::Strip => {
-            check_strip(pile, numbers)?;
-            Ok(Claim::Reaches(Width::Number(numbers.len())))
+            check_strip(pile, paper)?;
+            Ok(Claim::Reaches(Width::Number(paper.len())))
         }
         Kind::Ring => {
-            check_ring(pile, numbers)?;
+            check_ring(pile, paper)?;
             Ok(Claim::Reaches(Width::Endless))
         }
         Kind::Ranking => {
-            let height = check_ranking(pile, numbers)?;
+            let height = check_ranking(pile, paper)?;
             Ok(Claim::Limits(Width::Number(height)))
         }
         Kind::Torus => {
-            check_torus(pile, numbers)?;
+            check_torus(pile, paper)?;
             Ok(Claim::Reaches(Width::Endless))
         }
     }

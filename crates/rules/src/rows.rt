@@ -1,12 +1,12 @@
 // Rows of cells: walks in the transducer's graph, and closed walks.
 ghost use Rattle.std.specs.Prelude.{◌≡◌, ◌+◌, ◌-◌, ◌<◌, ◌≤◌, length, if◌then◌else◌, Some, nat_eq};
 ghost use Rattle.papers.specs.First.{answered};
-ghost use Rattle.papers.specs.Numbers.{listed};
+ghost use Rattle.papers.specs.Paper.{held};
 ghost use Rattle.rules.specs.Rows.{cell, cell_meets, closed_row, leaves, ring, row, same_state, strip};
 ghost use Rattle.rules.specs.Walks.{both_states, walked};
 
 use crate::fault::DocketFault;
-use papers::Numbers;
+use papers::Paper;
 use transducers::Transducer;
 
 // The state that a walk leaves and the state that it is in; none where it has no cell yet.
@@ -19,12 +19,12 @@ pub(crate) struct Walk {
 // The edge that the cell at a place names.
 pub(crate) fn edge_at<P: Transducer>(
     pile: &P,
-    numbers: &Numbers,
+    paper: &Paper<'_>,
     place: u32,
 ) -> Option<(u32, u32, u32, u32)>
-    ensures { result ≡ cell (meaning pile.now) (listed numbers.now) place }
+    ensures { result ≡ cell (meaning pile.now) (held paper.now).numbers place }
 {
-    pile.slot(numbers.number(place))
+    pile.slot(paper.number(place))
 }
 
 // Whether an edge from a state may come where a walk is.
@@ -50,13 +50,13 @@ fn same(a: Option<u32>, b: Option<u32>) -> bool
 // One cell more: the two states of its edge.
 fn step<P: Transducer>(
     pile: &P,
-    numbers: &Numbers,
+    paper: &Paper<'_>,
     place: u32,
     state: Option<u32>,
 ) -> Result<(u32, u32), DocketFault>
-    ensures { result ≡ answered (cell_meets (cell (meaning pile.now) (listed numbers.now) place) state place) (both_states (cell (meaning pile.now) (listed numbers.now) place)) }
+    ensures { result ≡ answered (cell_meets (cell (meaning pile.now) (held paper.now).numbers place) state place) (both_states (cell (meaning pile.now) (held paper.now).numbers place)) }
 {
-    let Some((from, to, _, _)) = edge_at(pile, numbers, place) else {
+    let Some((from, to, _, _)) = edge_at(pile, paper, place) else {
         return Err(DocketFault::NoEdge(place));
     };
     if !may_leave(state, from) {
@@ -74,17 +74,17 @@ fn first_origin(j: u32, from: u32, origin: Option<u32>) -> Option<u32>
 // The walk along the row of so many cells at a place.
 pub(crate) fn walk_row<P: Transducer>(
     pile: &P,
-    numbers: &Numbers,
+    paper: &Paper<'_>,
     start: u32,
     width: u32,
 ) -> Result<Walk, DocketFault>
     requires { start + width < 4294967296 }
-    ensures { result ≡ walked (meaning pile.now) (listed numbers.now) start width }
+    ensures { result ≡ walked (meaning pile.now) (held paper.now).numbers start width }
 {
     let mut origin = None;
     let mut state = None;
     for j in 0..width {
-        let (from, to) = step(pile, numbers, start + j, state)?;
+        let (from, to) = step(pile, paper, start + j, state)?;
         origin = first_origin(j, from, origin);
         state = Some(to);
     }
@@ -92,24 +92,24 @@ pub(crate) fn walk_row<P: Transducer>(
 }
 
 // The rule of a strip: a walk.
-pub(crate) fn check_strip<P: Transducer>(pile: &P, numbers: &Numbers) -> Result<(), DocketFault>
-    ensures { result ≡ strip (meaning pile.now) (listed numbers.now) }
+pub(crate) fn check_strip<P: Transducer>(pile: &P, paper: &Paper<'_>) -> Result<(), DocketFault>
+    ensures { result ≡ strip (meaning pile.now) (held paper.now).numbers }
 {
-    walk_row(pile, numbers, 0, numbers.len())?;
+    walk_row(pile, paper, 0, paper.len())?;
     Ok(())
 }
 
 // A row that closes.
 pub(crate) fn close_row<P: Transducer>(
     pile: &P,
-    numbers: &Numbers,
+    paper: &Paper<'_>,
     start: u32,
     width: u32,
 ) -> Result<(), DocketFault>
     requires { start + width < 4294967296 }
-    ensures { result ≡ closed_row (meaning pile.now) (listed numbers.now) start width }
+    ensures { result ≡ closed_row (meaning pile.now) (held paper.now).numbers start width }
 {
-    let walk = walk_row(pile, numbers, start, width)?;
+    let walk = walk_row(pile, paper, start, width)?;
     if !same(walk.origin, walk.state) {
         return Err(DocketFault::Open((start + width).saturating_sub(1)));
     }
@@ -117,8 +117,8 @@ pub(crate) fn close_row<P: Transducer>(
 }
 
 // The rule of a ring: a closed walk.
-pub(crate) fn check_ring<P: Transducer>(pile: &P, numbers: &Numbers) -> Result<(), DocketFault>
-    ensures { result ≡ ring (meaning pile.now) (listed numbers.now) }
+pub(crate) fn check_ring<P: Transducer>(pile: &P, paper: &Paper<'_>) -> Result<(), DocketFault>
+    ensures { result ≡ ring (meaning pile.now) (held paper.now).numbers }
 {
-    close_row(pile, numbers, 0, numbers.len())
+    close_row(pile, paper, 0, paper.len())
 }

@@ -2,7 +2,7 @@
 use Rattle.std.specs.Prelude.{◌≡◌, ℕ, false, List, [], ◌∷◌, ◌++◌, replicate, Some, None, Ok, Err, codes, Result}
 use Prim.Native.String.{String}
 use Rattle.papers.specs.Bytes.{Bytes, weighted}
-use Rattle.papers.specs.Paper.{contents_of, saying}
+use Rattle.papers.specs.Paper.{Contents, contents_of}
 use Rattle.papers.specs.declared.kind.Kind.{Kind}
 use Rattle.papers.specs.declared.kind.Kind.TheVariants.{Strip, Ring, Ranking, Torus}
 use Rattle.bottoms.specs.Catalogue.{catalogue, table_row}
@@ -49,6 +49,10 @@ no_states q = false
 -- row k of the catalogue
 abbrev pub row : ℕ → Meaning
 row k = catalogue (table_row k)
+
+-- what a paper of this kind with these numbers says
+abbrev pub saying : Kind → List ℕ → Contents
+saying kind xs = record { kind = kind; numbers = xs }
 
 -- the first paper of a docket over m that says this is answered so: by what it says, by the bytes of each such paper, and there is one
 pub record Answers (m : Meaning) (kind : Kind) (xs : List ℕ) (r : Result Ends DocketFault) : Type 0 where

@@ -1,7 +1,6 @@
 // Links between states, as edges give them.
 ghost use Rattle.std.specs.Prelude.{◌≡◌, IfOk};
 ghost use Rattle.trimming.specs.Linking.{link_by, links_in};
-ghost use Rattle.trimming.specs.declared.links.Way.TheVariants.{Backward, Forward};
 
 use std::alloc::{AllocError, Global};
 use transducers::Transducer;
@@ -32,25 +31,19 @@ impl Way {
     }
 }
 
-// A link for each edge, followed forward and followed backward.
-#[derive(Drop)]
-pub(crate) struct Links {
-    pub(crate) forward: Vec<Link>,
-    pub(crate) backward: Vec<Link>,
-}
-
-// The links of a transducer, each slot of which is asked once.
-pub(crate) fn links_of<T: Transducer>(heap: Global, below: &T) -> Result<Links, AllocError>
-    ensures { IfOk result (λ l. (l.forward.items ≡ links_in (meaning below.now) Forward) × (l.backward.items ≡ links_in (meaning below.now) Backward)) }
+// A link for each edge.
+pub(crate) fn links_of<T: Transducer>(
+    heap: Global,
+    below: &T,
+    way: Way,
+) -> Result<Vec<Link>, AllocError>
+    ensures { IfOk result (λ v. v.items ≡ links_in (meaning below.now) way) }
 {
-    let slots = below.slots();
-    let mut forward = Vec::with_capacity(heap, slots as usize)?;
-    let mut backward = Vec::with_capacity(heap, slots as usize)?;
-    for i in 0..slots {
+    let mut links = Vec::new(heap);
+    for i in 0..below.slots() {
         if let Some((from, to, _, _)) = below.slot(i) {
-            forward.push(Way::Forward.link(from, to))?;
-            backward.push(Way::Backward.link(from, to))?;
+            links.push(way.link(from, to))?;
         }
     }
-    Ok(Links { forward, backward })
+    Ok(links)
 }

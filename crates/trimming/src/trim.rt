@@ -1,10 +1,11 @@
 // A transducer without the edges that lead nowhere.
 ghost use Rattle.std.specs.Prelude.{◌≡◌, ℕ, ◌&&◌, length, IfOk, vec_len};
+ghost use Rattle.trimming.specs.Lasting.{LargestBy};
 ghost use Rattle.trimming.specs.Trimming.{Largest, kept_set, listed, trim};
 ghost use Rattle.trimming.specs.TrimmingLemmas.{trim_valid};
 
 use crate::drain::drain;
-use crate::links::links_of;
+use crate::links::{Way, links_of};
 use std::alloc::{AllocError, Global};
 use transducers::Transducer;
 
@@ -13,6 +14,14 @@ use transducers::Transducer;
 pub struct Trim<T> {
     below: T,
     kept: Vec<bool>,
+}
+
+// The states from which edges can be followed for ever one way.
+fn lasting<T: Transducer>(heap: Global, below: &T, way: Way) -> Result<Vec<bool>, AllocError>
+    ensures { IfOk result (λ v. (vec_len v ≡ (meaning below.now).states) × LargestBy (meaning below.now) way (listed v.items)) }
+{
+    let links = links_of(heap, below, way)?;
+    drain(heap, below.states(), &links)
 }
 
 // Takes out of a list of states those that another list lacks.
@@ -29,10 +38,8 @@ fn keep_common(states: &mut [bool], other: &[bool])
 fn thriving<T: Transducer>(heap: Global, below: &T) -> Result<Vec<bool>, AllocError>
     ensures { IfOk result (λ v. Largest (meaning below.now) (listed v.items)) }
 {
-    let links = links_of(heap, below)?;
-    let states = below.states();
-    let mut kept = drain(heap, states, &links.forward)?;
-    let reached = drain(heap, states, &links.backward)?;
+    let mut kept = lasting(heap, below, Way::Forward)?;
+    let reached = lasting(heap, below, Way::Backward)?;
     keep_common(&mut kept, &reached);
     Ok(kept)
 }

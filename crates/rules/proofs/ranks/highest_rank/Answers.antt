@@ -1,5 +1,5 @@
 use Rattle.std.proofs.Common.{length, get_or, sym, refl, arith}
-use Rattle.papers.specs.Numbers.{listed}
+use Rattle.papers.specs.Paper.{held}
 use Rattle.papers.proofs.Order.{answer_of, first_exit_answered, first_none, first_more, passed, refused}
 use Rattle.rules.specs.Ranks.{highest, rank_fits}
 use Rattle.rules.proofs.Steps.{highest_more}
@@ -11,7 +11,7 @@ loop-state-init c = (sym (first_none _), refl)
 
 pub returns-in-err-rank-of : goal.returns-in-err-rank-of
 returns-in-err-rank-of c =
-    let xs = listed c.args.numbers.now in
+    let xs = (held c.args.paper.now).numbers in
     let state = c.loop-state.state in
     first_exit_answered (rank_fits xs) _ (length xs) state _ _ c.from-residual.ensures.1
     (omega (arith, c.loop-state-test.true, c.len-state-end.ensures)) c.loop-state.invariant.0
@@ -19,7 +19,7 @@ returns-in-err-rank-of c =
 
 pub loop-state-preserved : goal.loop-state-preserved
 loop-state-preserved c =
-    let xs = listed c.args.numbers.now in
+    let xs = (held c.args.paper.now).numbers in
     let state = c.loop-state.state in
     let told = c.in-ok-rank-of.ensures in (
       first_more (rank_fits xs) state c.loop-state.invariant.0 (passed (rank_fits xs state) (get_or xs state 0) _ told),

@@ -1,5 +1,5 @@
 use Rattle.std.proofs.Common.{sym, refl}
-use Rattle.papers.specs.Numbers.{listed}
+use Rattle.papers.specs.Paper.{held}
 use Rattle.papers.proofs.Order.{first_exit_answered, first_none, first_more}
 use Rattle.rules.specs.Rows.{column}
 use Rattle.rules.proofs.Steps.{step_passes, step_refused, step_arrival, step_origin}
@@ -11,7 +11,7 @@ loop-j-init g c = (sym (first_none _), refl, refl)
 pub returns-in-err-from : goal.returns-in-err-from
 returns-in-err-from g c =
     let m = g.P.Transducer.meaning c.args.pile.now in
-    let xs = listed c.args.numbers.now in
+    let xs = (held c.args.paper.now).numbers in
     let b = c.args.start in
     let inv = c.loop-j.invariant in
     let here = step_refused m xs b c.loop-j.j _ _ inv.2 c.in-err-from.ensures in
@@ -20,7 +20,7 @@ returns-in-err-from g c =
 pub loop-j-preserved : goal.loop-j-preserved
 loop-j-preserved g c =
     let m = g.P.Transducer.meaning c.args.pile.now in
-    let xs = listed c.args.numbers.now in
+    let xs = (held c.args.paper.now).numbers in
     let b = c.args.start in
     let j = c.loop-j.j in
     let inv = c.loop-j.invariant in

@@ -1,11 +1,11 @@
 use Rattle.std.proofs.Common.{◌*◌, sym, ap₂, arith}
-use Rattle.papers.specs.Numbers.{listed}
+use Rattle.papers.specs.Paper.{held}
 use Rattle.rules.proofs.Sides.{sides, whole}
 use Rattle.rules.proofs.torus.check_torus.Goals as goal
 
 pub meet-rows-requires : goal.meet-rows-requires
 meet-rows-requires g c =
-    let s = sides (listed c.args.numbers.now) (sym c.if-not-fair-shape.ensures) in
+    let s = sides (held c.args.paper.now).numbers (sym c.if-not-fair-shape.ensures) in
     record {
       is_wide = c.number-wide.ensures;
       is-size = ap₂ (λ w r. w * r) c.number-wide.ensures c.number-high.ensures;

@@ -1,8 +1,8 @@
 use Rattle.std.proofs.Common.{◌≡◌, Ok}
 use Rattle.papers.specs.First.{first}
-use Rattle.papers.specs.Numbers.{listed}
+use Rattle.papers.specs.Paper.{held}
 use Rattle.rules.specs.Torus.{meets_above}
 use Rattle.rules.proofs.torus.meet_rows.Given as goal
 
 abbrev pub invariant_loop_i : goal.invariant_loop_i
-invariant_loop_i g l = first (meets_above (g.P.Transducer.meaning l.pile) (listed l.numbers)) l.i ≡ Ok tt
+invariant_loop_i g l = first (meets_above (g.P.Transducer.meaning l.pile) (held l.paper).numbers) l.i ≡ Ok tt

@@ -1,10 +1,6 @@
-use Rattle.std.proofs.Common.{sym, rules}
-use Rattle.papers.proofs.Lengths.{some_numbers}
+use Rattle.std.proofs.Common.{rules}
 use Rattle.laws.proofs.Refusing.{filing_keeps_law}
 use Rattle.docket.proofs.docket.Docket.file.Goals as goal
-
-pub weigh-requires : goal.weigh-requires
-weigh-requires g c = record { few = (some_numbers c.args.paper.now _ (sym c.in-ok-paper.ensures.answer)).1 }
 
 pub returns-in-err-paper : goal.returns-in-err-paper
 returns-in-err-paper g c = record {
