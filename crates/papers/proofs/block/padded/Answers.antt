@@ -6,9 +6,9 @@ use Rattle.papers.proofs.block.padded.Goals as goal
 pub loop-i-init : goal.loop-i-init
 loop-i-init c = sym (first_none _)
 
-pub returns-in-err-padding-at : goal.returns-in-err-padding-at
-returns-in-err-padding-at c =
-    first_exit _ 126 _ _ _ c.from-residual.ensures.1 c.loop-i-test.true c.loop-i.invariant c.in-err-padding-at.ensures
+pub returns-in_err-padding_at : goal.returns-in_err-padding_at
+returns-in_err-padding_at c =
+    first_exit _ 126 _ _ _ c.from_residual.ensures.1 c.loop-i-test.true c.loop-i.invariant c.in_err-padding_at.ensures
 
 pub loop-i-preserved : goal.loop-i-preserved
 loop-i-preserved c = search (rules, first_more)

@@ -19,10 +19,10 @@ module _ (bs p : List ℕ) (b k : ℕ) (last : Bool) (part : p ≡ block_at bs b
   at_block : (x : Block) → Ok x ≡ block_of p b k last → of_block (Ok tt) ≡ of_block (block_verdict (block_at bs b) b (due_kind bs b) last)
   at_block x e = at (Ok tt) (passed _ _ x e)
 
-pub returns-in-err-read-block : goal.returns-in-err-read-block
-returns-in-err-read-block c =
-    let p = err_from_is_err_and c.from-residual.result c.from-residual.ensures.1 in
-    rw (p.1, p.2) (at-fault _ _ _ _ _ c.block-part-part.ensures c.kind-due-kind.ensures _ c.in-err-read-block.ensures.answer)
+pub returns-in_err-read_block : goal.returns-in_err-read_block
+returns-in_err-read_block c =
+    let p = err_from_is_err_and c.from_residual.result c.from_residual.ensures.1 in
+    rw (p.1, p.2) (at-fault _ _ _ _ _ c.block_part-part.ensures c.kind-due_kind.ensures _ c.in_err-read_block.ensures.answer)
 
 pub returns : goal.returns
-returns c = at_block _ _ _ _ _ c.block-part-part.ensures c.kind-due-kind.ensures _ c.in-ok-read-block.ensures.answer
+returns c = at_block _ _ _ _ _ c.block_part-part.ensures c.kind-due_kind.ensures _ c.in_ok-read_block.ensures.answer

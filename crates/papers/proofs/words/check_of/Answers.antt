@@ -11,8 +11,8 @@ pub loop-i-init : goal.loop-i-init
 unfolding weighted
 loop-i-init c = (refl, omega arith)
 
-pub overflow-add-sum-in-loop-i : goal.overflow-add-sum-in-loop-i
-overflow-add-sum-in-loop-i c = record { fits = omega (arith, bound c) }
+pub overflow_add-sum-in-loop-i : goal.overflow_add-sum-in-loop-i
+overflow_add-sum-in-loop-i c = record { fits = omega (arith, bound c) }
 
 weighted_more : (bs : List ℕ) (n b s : ℕ) → s ≡ weighted bs n → b ≡ get_or bs n 0 → s + (n + 1) * b ≡ weighted bs (n + 1)
 unfolding weighted

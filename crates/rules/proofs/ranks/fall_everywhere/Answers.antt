@@ -5,9 +5,9 @@ use Rattle.rules.proofs.ranks.fall_everywhere.Goals as goal
 pub loop-i-init : goal.loop-i-init
 loop-i-init g c = sym (first_none _)
 
-pub returns-in-err-fall-in : goal.returns-in-err-fall-in
-returns-in-err-fall-in g c =
-    first_exit _ _ _ _ _ c.from-residual.ensures.1 (omega (arith, c.loop-i-test.true, c.slots-i-end.ensures)) c.loop-i.invariant c.in-err-fall-in.ensures
+pub returns-in_err-fall_in : goal.returns-in_err-fall_in
+returns-in_err-fall_in g c =
+    first_exit _ _ _ _ _ c.from_residual.ensures.1 (omega (arith, c.loop-i-test.true, c.slots-i-end.ensures)) c.loop-i.invariant c.in_err-fall_in.ensures
 
 pub loop-i-preserved : goal.loop-i-preserved
 loop-i-preserved g c = search (rules, first_more)

@@ -9,19 +9,19 @@ pub loop-state-init : goal.loop-state-init
 unfolding highest
 loop-state-init c = (sym (first_none _), refl)
 
-pub returns-in-err-rank-of : goal.returns-in-err-rank-of
-returns-in-err-rank-of c =
+pub returns-in_err-rank_of : goal.returns-in_err-rank_of
+returns-in_err-rank_of c =
     let xs = (held c.args.paper.now).numbers in
     let state = c.loop-state.state in
-    first_exit_answered (rank_fits xs) _ (length xs) state _ _ c.from-residual.ensures.1
+    first_exit_answered (rank_fits xs) _ (length xs) state _ _ c.from_residual.ensures.1
     (omega (arith, c.loop-state-test.true, c.len-state-end.ensures)) c.loop-state.invariant.0
-    (refused (rank_fits xs state) (get_or xs state 0) _ c.in-err-rank-of.ensures)
+    (refused (rank_fits xs state) (get_or xs state 0) _ c.in_err-rank_of.ensures)
 
 pub loop-state-preserved : goal.loop-state-preserved
 loop-state-preserved c =
     let xs = (held c.args.paper.now).numbers in
     let state = c.loop-state.state in
-    let told = c.in-ok-rank-of.ensures in (
+    let told = c.in_ok-rank_of.ensures in (
       first_more (rank_fits xs) state c.loop-state.invariant.0 (passed (rank_fits xs state) (get_or xs state 0) _ told),
       highest_more xs state _ _ _ c.loop-state.invariant.1 (answer_of (rank_fits xs state) (get_or xs state 0) _ told) c.max-high.ensures,
     )

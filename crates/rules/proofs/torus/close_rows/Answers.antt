@@ -5,9 +5,9 @@ use Rattle.rules.proofs.torus.close_rows.Goals as goal
 pub loop-k-init : goal.loop-k-init
 loop-k-init g c = sym (first_none _)
 
-pub returns-in-err-close-at : goal.returns-in-err-close-at
-returns-in-err-close-at g c =
-    first_exit _ _ _ _ _ c.from-residual.ensures.1 (omega (arith, c.loop-k-test.true, c.requires.is-high)) c.loop-k.invariant c.in-err-close-at.ensures
+pub returns-in_err-close_at : goal.returns-in_err-close_at
+returns-in_err-close_at g c =
+    first_exit _ _ _ _ _ c.from_residual.ensures.1 (omega (arith, c.loop-k-test.true, c.requires.is_high)) c.loop-k.invariant c.in_err-close_at.ensures
 
 pub loop-k-preserved : goal.loop-k-preserved
 loop-k-preserved g c = search (rules, first_more)

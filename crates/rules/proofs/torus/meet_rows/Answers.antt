@@ -5,9 +5,9 @@ use Rattle.rules.proofs.torus.meet_rows.Goals as goal
 pub loop-i-init : goal.loop-i-init
 loop-i-init g c = sym (first_none _)
 
-pub returns-in-err-meet-above : goal.returns-in-err-meet-above
-returns-in-err-meet-above g c =
-    first_exit _ _ _ _ _ c.from-residual.ensures.1 (omega (arith, c.loop-i-test.true, c.requires.is-size)) c.loop-i.invariant c.in-err-meet-above.ensures
+pub returns-in_err-meet_above : goal.returns-in_err-meet_above
+returns-in_err-meet_above g c =
+    first_exit _ _ _ _ _ c.from_residual.ensures.1 (omega (arith, c.loop-i-test.true, c.requires.is_size)) c.loop-i.invariant c.in_err-meet_above.ensures
 
 pub loop-i-preserved : goal.loop-i-preserved
 loop-i-preserved g c = search (rules, first_more)

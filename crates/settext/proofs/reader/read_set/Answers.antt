@@ -18,20 +18,20 @@ pub loop-reader-init : goal.loop-reader-init
 loop-reader-init c = comes_start _ _ _ c.new.ensures (omega arith)
 
 pub loop-reader-smaller : goal.loop-reader-smaller
-loop-reader-smaller c = line_shrinks _ _ _ _ (some _ c.loop-reader-test.ensures) c.in-ok-line.ensures.reads
+loop-reader-smaller c = line_shrinks _ _ _ _ (some _ c.loop-reader-test.ensures) c.in_ok-line.ensures.reads
 
 pub loop-reader-preserved : goal.loop-reader-preserved
 loop-reader-preserved c =
-    comes_more _ _ _ _ _ (some _ c.loop-reader-test.ensures) c.in-ok-line.ensures.reads c.loop-reader.invariant
+    comes_more _ _ _ _ _ (some _ c.loop-reader-test.ensures) c.in_ok-line.ensures.reads c.loop-reader.invariant
 
-pub returns-in-err-line : goal.returns-in-err-line
-returns-in-err-line c =
-    let p = err_from_is_err_and c.from-residual.result c.from-residual.ensures.1 in
-    let e = comes_fault _ _ _ _ (some _ c.loop-reader-test.ensures) c.in-err-line.ensures.reads c.loop-reader.invariant in
-    let answer : c.from-residual.result ≡ (set_text c.args.text.now c.args.tiles.now).answer =
+pub returns-in_err-line : goal.returns-in_err-line
+returns-in_err-line c =
+    let p = err_from_is_err_and c.from_residual.result c.from_residual.ensures.1 in
+    let e = comes_fault _ _ _ _ (some _ c.loop-reader-test.ensures) c.in_err-line.ensures.reads c.loop-reader.invariant in
+    let answer : c.from_residual.result ≡ (set_text c.args.text.now c.args.tiles.now).answer =
     rw (p.1, p.2) (ap (λ (o : Outcome). o.answer) e) in
     let fill : c.line.new.tiles ≡ (set_text c.args.text.now c.args.tiles.now).tiles =
-    ◌∙◌ {a = c.line.new.tiles} c.in-err-line.ensures.kept (ap (λ (o : Outcome). o.tiles) e) in
+    ◌∙◌ {a = c.line.new.tiles} c.in_err-line.ensures.kept (ap (λ (o : Outcome). o.tiles) e) in
     record { answers = answer; fills = fill; law = law_of _ _ _ _ answer fill }
 
 pub returns : goal.returns

@@ -2,8 +2,8 @@ use Rattle.std.proofs.Common.{arith}
 use Rattle.transducers.specs.Stacks.{some_product}
 use Rattle.transducers.proofs.stack.stack_counts.Goals as goal
 
-pub invariant-of-result : goal.invariant-of-result
-invariant-of-result g c =
+pub invariant_of-result : goal.invariant_of-result
+invariant_of-result g c =
     let l = g.met.L.Transducer.valid c.args.lower.now in
     let u = g.met.U.Transducer.valid c.args.upper.now in
     let states = some_product c.states.result c.states-2.result (omega arith) (omega arith) in

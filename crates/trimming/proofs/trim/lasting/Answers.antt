@@ -8,7 +8,7 @@ pub drain-requires : goal.drain-requires
 drain-requires g c =
     let m = g.T.Transducer.meaning c.args.below.now in
     let valid = g.met.T.Transducer.valid c.args.below.now in
-    rw (c.deref.ensures.value, c.in-ok-links.ensures, c.states.ensures) (record { within = links_within m valid c.args.way; few = few_links m valid c.args.way })
+    rw (c.deref.ensures.value, c.in_ok-links.ensures, c.states.ensures) (record { within = links_within m valid c.args.way; few = few_links m valid c.args.way })
 
 pub returns : goal.returns
 returns g c =
@@ -17,6 +17,6 @@ returns g c =
     IfOk-weaker c.drain.result _ _
     (λ v h. (
       h.0 ∙ c.states.ensures,
-      largest_by m valid c.args.way c.deref.result.now (vec_items c.in-ok-links.links) c.deref.ensures.value c.in-ok-links.ensures (listed (vec_items v)) h.1,
+      largest_by m valid c.args.way c.deref.result.now (vec_items c.in_ok-links.links) c.deref.ensures.value c.in_ok-links.ensures (listed (vec_items v)) h.1,
     ))
     c.drain.ensures

@@ -7,6 +7,6 @@ pub returns : goal.returns
 returns c = record {
   fair = search rules;
   tiles = search rules;
-  states = one_more tile_state c.args.tiles.now _ (omega arith) (omega (arith, c.counts-of-states.ensures.states));
-  letters = one_more tile_letter c.args.tiles.now _ (omega arith) (omega (arith, c.counts-of-states.ensures.letters));
+  states = one_more tile_state c.args.tiles.now _ (omega arith) (omega (arith, c.counts_of-states.ensures.states));
+  letters = one_more tile_letter c.args.tiles.now _ (omega arith) (omega (arith, c.counts_of-states.ensures.letters));
 }

@@ -11,7 +11,7 @@ loop-tile-preserved c =
     let l = c.loop-tile in
     let taken = c.loop-tile-test.true in (
       omega (arith, greatest_more tile_state c.args.tiles.now l.tile-index l.state blank taken l.invariant.0, c.state_of.ensures),
-      omega (arith, greatest_more tile_letter c.args.tiles.now l.tile-index l.letter blank taken l.invariant.1, c.letter-of.ensures),
+      omega (arith, greatest_more tile_letter c.args.tiles.now l.tile-index l.letter blank taken l.invariant.1, c.letter_of.ensures),
     )
 
 pub returns : goal.returns

@@ -2,8 +2,8 @@ use Rattle.std.proofs.Common.{rules}
 use Rattle.laws.proofs.Refusing.{filing_keeps_law}
 use Rattle.docket.proofs.docket.Docket.file.Goals as goal
 
-pub returns-in-err-paper : goal.returns-in-err-paper
-returns-in-err-paper g c = record {
+pub returns-in_err-paper : goal.returns-in_err-paper
+returns-in_err-paper g c = record {
   answer = search rules;
   pile = search rules;
   ends = search rules;
@@ -11,8 +11,8 @@ returns-in-err-paper g c = record {
   law = filing_keeps_law _ (g.met.P.Transducer.valid c.args.self.now.pile) c.args.paper.now;
 }
 
-pub returns-in-err-claim : goal.returns-in-err-claim
-returns-in-err-claim g c = record {
+pub returns-in_err-claim : goal.returns-in_err-claim
+returns-in_err-claim g c = record {
   answer = search rules;
   pile = search rules;
   ends = search rules;

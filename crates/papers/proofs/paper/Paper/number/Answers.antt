@@ -5,7 +5,7 @@ use Rattle.papers.specs.Paper.{number_at, numbers}
 use Rattle.papers.proofs.paper.Paper.number.Goals as goal
 
 pub returns-then-place-self : goal.returns-then-place-self
-returns-then-place-self c = c.word-at.ensures ∙ sym (get_or-map-range_with_len _ 0 _ _ _ 0 c.if-place-self.true (omega arith))
+returns-then-place-self c = c.word_at.ensures ∙ sym (get_or-map-range_with_len _ 0 _ _ _ 0 c.if-place-self.true (omega arith))
 
 pub returns-else-place-self : goal.returns-else-place-self
 returns-else-place-self c =

@@ -38,7 +38,7 @@ returns-then-set-ne0 c =
     let s = c.args.set in
     let ts = c.args.tiles.now in
     let row = c.if-set-ne0.true in
-    MatchResult-weaker c.over-row.result c.over-row.ensures (row_opens s ts _ c.in-Some.ensures row)
+    MatchResult-weaker c.over_row.result c.over_row.ensures (row_opens s ts _ c.in-Some.ensures row)
     (row-refused s ts _ c.in-Some.ensures row)
 
 -- a part from the start
@@ -52,6 +52,6 @@ returns c =
     let k = c.in-Some.kind in
     let row = c.if-set-ne0.false in
     let there : s.tiles ≤ length ts = omega arith in
-    let told = subst (λ n. MatchResult c.over-tiles.result (NewOver k (list_meaning (take n ts))) (TilesRefused k (take n ts))) (all_of s.tiles) c.over-tiles.ensures in
-    MatchResult-weaker c.over-tiles.result told (tiles-open s ts k c.in-Some.ensures row there)
+    let told = subst (λ n. MatchResult c.over_tiles.result (NewOver k (list_meaning (take n ts))) (TilesRefused k (take n ts))) (all_of s.tiles) c.over_tiles.ensures in
+    MatchResult-weaker c.over_tiles.result told (tiles-open s ts k c.in-Some.ensures row there)
     (tiles-refused s ts k c.in-Some.ensures row there)

@@ -6,17 +6,17 @@ use Rattle.trimming.proofs.drain.work.count_links.Goals as goal
 
 pub loop-link-init : goal.loop-link-init
 loop-link-init c =
-    subst (Counted c.args.states c.args.links.now 0) (sym (c.in-ok-counts.ensures.items-if-clones-equal (λ y e. e))) (counted_none _ _)
+    subst (Counted c.args.states c.args.links.now 0) (sym (c.in_ok-counts.ensures.items-if-clones-equal (λ y e. e))) (counted_none _ _)
 
-pub index-mut-requires : goal.index-mut-requires
-index-mut-requires c = omega (arith, (c.requires.within _ c.loop-link-test.true).0, c.loop-link.invariant.size, c.loop-link.counts.ok.0)
+pub index_mut-requires : goal.index_mut-requires
+index_mut-requires c = omega (arith, (c.requires.within _ c.loop-link-test.true).0, c.loop-link.invariant.size, c.loop-link.counts.ok.0)
 
-pub overflow-add-index-mut : goal.overflow-add-index-mut
-overflow-add-index-mut c =
+pub overflow_add-index_mut : goal.overflow_add-index_mut
+overflow_add-index_mut c =
     let ls = c.args.links.now in
     let f = (link ls c.loop-link.link-index).from in
     let within : f < length (vec_items c.loop-link.counts) = omega (arith, (c.requires.within _ c.loop-link-test.true).0, c.loop-link.invariant.size) in
-    let few = count_le _ ls _ _ _ c.loop-link-test.true c.requires.within c.loop-link.invariant (get_or_read _ f _ within c.index-mut.ensures.value 0) in
+    let few = count_le _ ls _ _ _ c.loop-link-test.true c.requires.within c.loop-link.invariant (get_or_read _ f _ within c.index_mut.ensures.value 0) in
     search rules
 
 pub loop-link-preserved : goal.loop-link-preserved
@@ -24,7 +24,7 @@ loop-link-preserved c =
     let ls = c.args.links.now in
     let f = (link ls c.loop-link.link-index).from in
     let within : f < length (vec_items c.loop-link.counts) = omega (arith, (c.requires.within _ c.loop-link-test.true).0, c.loop-link.invariant.size) in
-    counted_more _ ls _ _ _ c.loop-link-test.true c.requires.within c.loop-link.invariant (get_or_read _ f _ within c.index-mut.ensures.value 0)
+    counted_more _ ls _ _ _ c.loop-link-test.true c.requires.within c.loop-link.invariant (get_or_read _ f _ within c.index_mut.ensures.value 0)
 
 pub returns : goal.returns
 returns c =

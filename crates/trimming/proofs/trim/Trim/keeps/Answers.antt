@@ -4,7 +4,7 @@ use Rattle.trimming.proofs.trim.Trim.keeps.Goals as goal
 
 pub returns : goal.returns
 returns g c =
-    c.unwrap-or.ensures
+    c.unwrap_or.ensures
     ∙ ap (λ o. unwrap_or o false) c.copied.ensures
     ∙ item_or _ c.args.state _ false c.get.ensures.lookup
     ∙ ap (λ ks. get_or ks c.args.state false) c.deref.ensures.value

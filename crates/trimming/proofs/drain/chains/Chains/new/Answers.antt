@@ -5,7 +5,7 @@ use Rattle.trimming.proofs.Linking.{chained_none, chained_more}
 use Rattle.trimming.proofs.drain.chains.Chains.new.Goals as goal
 
 pub loop-i-init : goal.loop-i-init
-loop-i-init c = rw (c.in-ok-last.ensures.items-if-clones-equal (λ y e. e), c.new-next.ensures.items) (chained_none _ _ c.requires.within)
+loop-i-init c = rw (c.in_ok-last.ensures.items-if-clones-equal (λ y e. e), c.new-next.ensures.items) (chained_none _ _ c.requires.within)
 
 pub loop-i-preserved : goal.loop-i-preserved
 loop-i-preserved c =
@@ -13,7 +13,7 @@ loop-i-preserved c =
     let t = (link ls c.loop-i.i).to in
     let within : t < length (vec_items c.loop-i.last) = omega (arith, (c.requires.within _ c.loop-i-test.true).1, c.loop-i.invariant.last_size) in
     let read = get_or_read _ t _ within c.index.ensures 0 in
-    rw c.in-ok-push.ensures.items (chained_more _ ls _ _ _ _ c.loop-i-test.true c.loop-i.invariant read)
+    rw c.in_ok-push.ensures.items (chained_more _ ls _ _ _ _ c.loop-i-test.true c.loop-i.invariant read)
 
 pub returns : goal.returns
 returns c =

@@ -13,11 +13,11 @@ index-requires c = omega (arith, doubted_below _ _ _ _ _ _ c.requires.drain, c.r
 pub index-requires-then-index : goal.index-requires-then-index
 index-requires-then-index c = omega (arith, doubted_below _ _ _ _ _ _ c.requires.drain, c.requires.drain.counts_size, c.args.self.now.counts.ok.0)
 
-pub index-mut-requires : goal.index-mut-requires
-index-mut-requires c = omega (arith, doubted_below _ _ _ _ _ _ c.requires.drain, c.requires.drain.kept_size, c.args.self.now.kept.ok.0)
+pub index_mut-requires : goal.index_mut-requires
+index_mut-requires c = omega (arith, doubted_below _ _ _ _ _ _ c.requires.drain, c.requires.drain.kept_size, c.args.self.now.kept.ok.0)
 
-pub unlink-into-requires : goal.unlink-into-requires
-unlink-into-requires c =
+pub unlink_into-requires : goal.unlink_into-requires
+unlink_into-requires c =
     let t = c.args.state in
     let drain = c.requires.drain in
     let below = doubted_below _ _ _ _ _ _ drain in
