@@ -3,5 +3,5 @@ use Rattle.papers.specs.Block.{padding}
 use Rattle.papers.specs.First.{first}
 use Rattle.papers.proofs.block.padded.Given as goal
 
-abbrev pub invariant_loop_i : goal.invariant_loop_i
-invariant_loop_i l = first (padding l.bytes l.place) l.i ≡ Ok tt
+abbrev pub invariant-loop-i : goal.invariant-loop-i
+invariant-loop-i l = first (padding l.bytes l.place) l.i ≡ Ok tt

@@ -22,7 +22,7 @@ module _ (bs p : List ℕ) (b k : ℕ) (last : Bool) (part : p ≡ block_at bs b
 pub returns-in_err-read_block : goal.returns-in_err-read_block
 returns-in_err-read_block c =
     let p = err_from_is_err_and c.from_residual.result c.from_residual.ensures.1 in
-    rw (p.1, p.2) (at-fault _ _ _ _ _ c.block_part-part.ensures c.kind-due_kind.ensures _ c.in_err-read_block.ensures.answer)
+    rw (p.1, p.2) (at-fault _ _ _ _ _ c.block_part-part.ensures c.kind_due-kind.ensures _ c.in_err-read_block.ensures.answer)
 
 pub returns : goal.returns
-returns c = at_block _ _ _ _ _ c.block_part-part.ensures c.kind-due_kind.ensures _ c.in_ok-read_block.ensures.answer
+returns c = at_block _ _ _ _ _ c.block_part-part.ensures c.kind_due-kind.ensures _ c.in_ok-read_block.ensures.answer

@@ -2,5 +2,5 @@ use Rattle.std.proofs.Common.{◌≡◌, ◌*◌, ◌≤◌}
 use Rattle.papers.specs.Bytes.{weighted}
 use Rattle.papers.proofs.words.check_of.Given as goal
 
-abbrev pub invariant_loop_i : goal.invariant_loop_i
-invariant_loop_i l = (l.sum ≡ weighted l.bytes l.i) × (l.sum ≤ 129540 * l.i)
+abbrev pub invariant-loop-i : goal.invariant-loop-i
+invariant-loop-i l = (l.sum ≡ weighted l.bytes l.i) × (l.sum ≤ 129540 * l.i)

@@ -1,5 +1,5 @@
 use Rattle.std.proofs.Common.{ℕ, ◌<◌, ◌≤◌, ◌≢◌, get_or}
 use Rattle.reports.proofs.excerpts.line_end.Given as goal
 
-abbrev pub invariant_loop_i : goal.invariant_loop_i
-invariant_loop_i l = (k : ℕ) → l.start ≤ k → k < l.i → get_or l.bytes k 0 ≢ 10
+abbrev pub invariant-loop-i : goal.invariant-loop-i
+invariant-loop-i l = (k : ℕ) → l.start ≤ k → k < l.i → get_or l.bytes k 0 ≢ 10

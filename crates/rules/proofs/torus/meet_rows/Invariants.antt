@@ -4,5 +4,5 @@ use Rattle.papers.specs.Paper.{held}
 use Rattle.rules.specs.Torus.{meets_above}
 use Rattle.rules.proofs.torus.meet_rows.Given as goal
 
-abbrev pub invariant_loop_i : goal.invariant_loop_i
-invariant_loop_i g l = first (meets_above (g.P.Transducer.meaning l.pile) (held l.paper).numbers) l.i ≡ Ok tt
+abbrev pub invariant-loop-i : goal.invariant-loop-i
+invariant-loop-i g l = first (meets_above (g.P.Transducer.meaning l.pile) (held l.paper).numbers) l.i ≡ Ok tt

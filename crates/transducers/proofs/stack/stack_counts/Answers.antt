@@ -8,4 +8,11 @@ invariant_of-result g c =
     let u = g.met.U.Transducer.valid c.args.upper.now in
     let states = some_product c.states.result c.states-2.result (omega arith) (omega arith) in
     let slots = some_product c.slots.result c.slots-2.result (omega arith) (omega arith) in
-    (states, (omega arith, (omega arith, (omega arith, (slots, (omega arith, tt))))))
+    record {
+      some_state = states;
+      few_states = omega arith;
+      some_letter = omega arith;
+      few_letters = omega arith;
+      some_slot = slots;
+      few_slots = omega arith;
+    }
