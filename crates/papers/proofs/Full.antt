@@ -1,5 +1,5 @@
 -- A full block has no padding. Assumes nothing.
-use Rattle.std.proofs.Common.{◌≡◌, ℕ, ◌<◌, List, Ok, sym, arith}
+use Rattle.std.proofs.Common.{◌≡◌, ℕ, List, Ok, sym, arith}
 use Rattle.std.proofs.lemmas.Bool.{lt-leb}
 use Rattle.papers.proofs.FirstLaws.{first_passes}
 use Rattle.papers.specs.Block.{count_byte, padding}

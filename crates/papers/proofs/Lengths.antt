@@ -7,7 +7,7 @@ use Rattle.papers.proofs.Order.{passed, answer_of}
 use Rattle.papers.proofs.PaperTests.{PassesAt, paper_exactly}
 use Rattle.papers.specs.Block.{count_byte}
 use Rattle.papers.specs.Form.{WholeBlocks, CountFits}
-use Rattle.papers.specs.Paper.{Contents, blocks, block_at, paper_verdict, paper_count, number_at, numbers, contents_of}
+use Rattle.papers.specs.Paper.{Contents, blocks, block_at, paper_verdict, paper_count, number_at, contents_of}
 
 -- the last block holds 1 to 126 numbers
 pub last_count : (bs : List ℕ) → WholeBlocks bs → ((b : ℕ) → b < blocks bs → PassesAt bs b) → (1 ≤ get_or bs (512 * (blocks bs - 1) + 3) 0) × (get_or bs (512 * (blocks bs - 1) + 3) 0 ≤ 126)

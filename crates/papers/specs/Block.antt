@@ -1,6 +1,6 @@
 -- One block of a paper: 512 bytes. Bytes 0 and 1 are its place in the paper, 2 its kind, 3 how many numbers it holds,
 -- 4 to 507 are 126 numbers of 32 bits, and 508 to 511 its check. Assumes nothing.
-use Rattle.std.specs.Prelude.{ℕ, ◌+◌, ◌*◌, Bool, true, false, cond, ◌&&◌, ◌||◌, List, length, Ok, Result, ◌==◌, nat_le, slice_index}
+use Rattle.std.specs.Prelude.{ℕ, ◌+◌, ◌*◌, Bool, true, false, cond, ◌&&◌, ◌||◌, List, length, Result, ◌==◌, nat_le, slice_index}
 use Rattle.papers.specs.Bytes.{half, word, weighted}
 use Rattle.papers.specs.First.{Verdict, must, ◌then◌, first, answered}
 use Rattle.papers.specs.declared.block.Block.{Block}

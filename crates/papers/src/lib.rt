@@ -1,4 +1,6 @@
 // Papers as bytes: blocks of 512 bytes, each with its own check, and what a paper of them holds.
+#![tactic(auto)]
+
 mod block;
 mod fault;
 mod kind;

@@ -1,12 +1,12 @@
 -- The stack of two valid transducers lies within its counts. Assumes nothing.
-use Rattle.std.specs.Prelude.{◌≡◌, ℕ, ◌+◌, ◌*◌, ◌/◌, ◌%◌, ◌<◌, ◌≤◌, max, Bool, true, false, cond, ◌&&◌, Some, None, Option, ◌==◌, nat_lt, refl}
-use Rattle.std.proofs.Common.{sym, ap, ◌∙◌, subst, mul_comm, arith}
+use Rattle.std.specs.Prelude.{◌≡◌, ℕ, ◌*◌, ◌/◌, ◌<◌, ◌≤◌, Bool, true, false, cond, Some, None, Option, ◌==◌, nat_lt, refl}
+use Rattle.std.proofs.Common.{sym, subst, mul_comm, arith}
 use Rattle.std.proofs.Math.Path.{fun_ext}
 use Rattle.std.proofs.lemmas.Nat.{le-div, mul-add-lt, mul-le}
 use Rattle.std.proofs.lemmas.Bool.{and_from, and_parts, le-ltb, lt-ltb, ltb-true, ltb-false}
 use Rattle.transducers.specs.Held.{held_edge, held_to, lies_inside, stack_held}
 use Rattle.transducers.specs.Meaning.{Edge, Meaning, Inside, Valid, from, to, south, north}
-use Rattle.transducers.specs.Stacking.{both_edges, joined_edges, paired, stack}
+use Rattle.transducers.specs.Stacking.{both_edges, paired, stack}
 use Rattle.transducers.specs.declared.counts.Counts.{Counts}
 
 pub some_product : (a b : ℕ) → 1 ≤ a → 1 ≤ b → 1 ≤ a * b

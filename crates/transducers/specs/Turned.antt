@@ -1,6 +1,6 @@
 -- A turned transducer keeps the limits. Assumes nothing.
 use Rattle.std.specs.Prelude.{◌≡◌, ℕ, Some, None, Option, refl}
-use Rattle.std.proofs.Common.{sym, ap, ◌∙◌, subst, arith}
+use Rattle.std.proofs.Common.{ap, subst, arith}
 use Rattle.std.specs.Option.{option_map}
 use Rattle.transducers.specs.Meaning.{Edge, Meaning, Inside, Valid}
 use Rattle.transducers.specs.Turning.{turn, turned_edge}

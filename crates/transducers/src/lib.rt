@@ -1,4 +1,6 @@
 // Transducers: graphs whose edges carry letters. The interface, and the layers that need nothing else: stack and turn.
+#![tactic(auto)]
+
 mod counts;
 mod fault;
 mod stack;
