@@ -1,11 +1,11 @@
 -- A row of the catalogue multiplies, and no row has a common factor. Assumes nothing.
-use Rattle.std.proofs.Common.{◌≡◌, ℕ, zero, suc, ◌+◌, ◌-◌, ◌*◌, ◌/◌, ◌%◌, ◌<◌, ◌≤◌, Bool, true, false, cond, not, ◌&&◌, eqb, ltb, leb, List, [], ◌∷◌, get_or, ℤ, pos, ◌+ℤ◌, ◌-ℤ◌, Some, None, Option, sym, refl, ap, ◌∙◌, subst, mul_comm, arith}
-use Rattle.std.proofs.lemmas.Nat.{div-add-mod', div-mul-add, mod_below, mod-mul-add, mul-add-lt, mul-le}
+use Rattle.std.proofs.Common.{◌≡◌, ℕ, ◌+◌, ◌-◌, ◌*◌, ◌/◌, ◌%◌, ◌<◌, Bool, true, false, cond, ◌&&◌, ltb, leb, Some, None, sym, refl, ap, ◌∙◌, subst, mul_comm, arith}
+use Rattle.std.proofs.lemmas.Nat.{div-add-mod', div-mul-add, mod_below, mod-mul-add, mul-add-lt}
 use Rattle.std.proofs.lemmas.Int.{ints}
-use Rattle.std.proofs.lemmas.Bool.{and_from, and_parts, le-leb, leb-true, lt-ltb, ltb-true}
+use Rattle.std.proofs.lemmas.Bool.{and_from, le-leb, leb-true, lt-ltb}
 use Rattle.bottoms.specs.Catalogue.{alphabet, carries, catalogue, multiplied, north_in, product, slot_of, south_in, west_in}
 use Rattle.transducers.specs.Meaning.{Edge, from, to, south, north}
-use Rattle.bottoms.specs.Multiplying.{Balanced, Coprime, Letter, Multiplies, carry}
+use Rattle.bottoms.specs.Multiplying.{Balanced, Letter, Multiplies}
 use Rattle.bottoms.specs.declared.multiplier.Multiplier.{Multiplier}
 use Rattle.bottoms.specs.Multipliers.{Small, some_letter}
 

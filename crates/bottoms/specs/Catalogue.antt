@@ -1,6 +1,6 @@
 -- The catalogue: transducers that multiply by p / d, letter by letter with a carry. Assumes nothing.
-use Rattle.std.specs.Prelude.{◌≡◌, ℕ, ◌+◌, ◌-◌, ◌*◌, ◌/◌, ◌%◌, ◌<◌, ◌≤◌, Bool, cond, ◌&&◌, List, [], ◌∷◌, Some, None, Option, nat_le, nat_lt, slice_index_or}
-use Rattle.transducers.specs.Meaning.{Edge, Meaning, from, to, south, north}
+use Rattle.std.specs.Prelude.{ℕ, ◌+◌, ◌-◌, ◌*◌, ◌/◌, ◌%◌, Bool, cond, ◌&&◌, List, [], ◌∷◌, Some, None, Option, nat_le, nat_lt, slice_index_or}
+use Rattle.transducers.specs.Meaning.{Edge, Meaning}
 use Rattle.bottoms.specs.declared.multiplier.Multiplier.{Multiplier}
 
 abbrev pub multiplier : ℕ → ℕ → ℕ → ℕ → Multiplier

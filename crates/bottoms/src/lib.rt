@@ -1,4 +1,6 @@
 // The transducers at the bottom of a pile: a list of tiles, and a row of the catalogue of multipliers.
+#![tactic(auto)]
+
 mod catalogue;
 mod fault;
 mod list;

@@ -39,7 +39,7 @@ impl<P: Transducer> Docket<P> {
         ensures pile { result.pile ≡ pile }
         ensures ends { result.ends ≡ fresh_ends }
         ensures tallies { result.tallies.table ≡ no_tallies }
-        ensures promise { Promise (meaning pile) }
+        ensures promise { Promise (P.meaning pile) }
     {
         Docket {
             pile,
@@ -66,7 +66,7 @@ impl<P: Transducer> Docket<P> {
 
     // Holds a paper against the pile, and tallies it.
     fn weigh(&mut self, paper: &Paper<'_>) -> Result<Claim, DocketFault>
-        ensures answer { result ≡ weighed (meaning self.old.pile) (held paper.now) }
+        ensures answer { result ≡ weighed (P.meaning self.old.pile) (held paper.now) }
         ensures pile { self.new.pile ≡ self.old.pile }
         ensures ends { self.new.ends ≡ self.old.ends }
         ensures tallies { self.new.tallies.table ≡ tallied self.old.tallies.table (Of (held paper.now).kind) (is_ok result) }
@@ -87,11 +87,11 @@ impl<P: Transducer> Docket<P> {
 
     // Files a paper: it is accepted and may move a width, or turned down with its first fault.
     pub fn file(&mut self, paper: &[u8]) -> Result<Ends, DocketFault>
-        ensures answer { result ≡ filing_answer self.old.ends (judged (meaning self.old.pile) paper.now) }
+        ensures answer { result ≡ filing_answer self.old.ends (judged (P.meaning self.old.pile) paper.now) }
         ensures pile { self.new.pile ≡ self.old.pile }
-        ensures ends { self.new.ends ≡ ends_after self.old.ends (judged (meaning self.old.pile) paper.now) }
-        ensures tallies { self.new.tallies.table ≡ tallies_after self.old.tallies.table (meaning self.old.pile) paper.now }
-        ensures law { FilingLaw (meaning self.old.pile) paper.now (judged (meaning self.old.pile) paper.now) }
+        ensures ends { self.new.ends ≡ ends_after self.old.ends (judged (P.meaning self.old.pile) paper.now) }
+        ensures tallies { self.new.tallies.table ≡ tallies_after self.old.tallies.table (P.meaning self.old.pile) paper.now }
+        ensures law { FilingLaw (P.meaning self.old.pile) paper.now (judged (P.meaning self.old.pile) paper.now) }
     {
         let paper = self.read(paper)?;
         let claim = self.weigh(&paper)?;

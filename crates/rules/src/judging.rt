@@ -14,7 +14,7 @@ use transducers::Transducer;
 
 // The claim of a paper that keeps the rule of its kind, or its first fault.
 pub fn weigh<P: Transducer>(pile: &P, paper: &Paper<'_>) -> Result<Claim, DocketFault>
-    ensures { result ≡ weighed (meaning pile.now) (held paper.now) }
+    ensures { result ≡ weighed (P.meaning pile.now) (held paper.now) }
 {
     match paper.kind() {
         Kind::Strip => {

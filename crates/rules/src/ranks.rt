@@ -32,7 +32,7 @@ fn highest_rank(paper: &Paper<'_>) -> Result<u32, DocketFault>
 
 // The rank falls along the edge in slot i, if there is one.
 fn fall_in<P: Transducer>(pile: &P, paper: &Paper<'_>, i: u32) -> Result<(), DocketFault>
-    ensures { result ≡ slot_falls (meaning pile.now) (held paper.now).numbers i }
+    ensures { result ≡ slot_falls (P.meaning pile.now) (held paper.now).numbers i }
 {
     let Some((from, to, _, _)) = pile.slot(i) else {
         return Ok(());
@@ -47,7 +47,7 @@ fn fall_in<P: Transducer>(pile: &P, paper: &Paper<'_>, i: u32) -> Result<(), Doc
 }
 
 fn fall_everywhere<P: Transducer>(pile: &P, paper: &Paper<'_>) -> Result<(), DocketFault>
-    ensures { result ≡ first (slot_falls (meaning pile.now) (held paper.now).numbers) (meaning pile.now).slots }
+    ensures { result ≡ first (slot_falls (P.meaning pile.now) (held paper.now).numbers) (P.meaning pile.now).slots }
 {
     for i in 0..pile.slots() {
         fall_in(pile, paper, i)?;
@@ -57,7 +57,7 @@ fn fall_everywhere<P: Transducer>(pile: &P, paper: &Paper<'_>) -> Result<(), Doc
 
 // The rule of a ranking; it answers the height.
 pub(crate) fn check_ranking<P: Transducer>(pile: &P, paper: &Paper<'_>) -> Result<u32, DocketFault>
-    ensures { result ≡ answered (ranking (meaning pile.now) (held paper.now).numbers) (height (held paper.now).numbers) }
+    ensures { result ≡ answered (ranking (P.meaning pile.now) (held paper.now).numbers) (height (held paper.now).numbers) }
 {
     if paper.len() != pile.states() {
         return Err(DocketFault::RankCount);

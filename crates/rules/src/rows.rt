@@ -22,7 +22,7 @@ pub(crate) fn edge_at<P: Transducer>(
     paper: &Paper<'_>,
     place: u32,
 ) -> Option<(u32, u32, u32, u32)>
-    ensures { result ≡ cell (meaning pile.now) (held paper.now).numbers place }
+    ensures { result ≡ cell (P.meaning pile.now) (held paper.now).numbers place }
 {
     pile.slot(paper.number(place))
 }
@@ -54,7 +54,7 @@ fn step<P: Transducer>(
     place: u32,
     state: Option<u32>,
 ) -> Result<(u32, u32), DocketFault>
-    ensures { result ≡ answered (cell_meets (cell (meaning pile.now) (held paper.now).numbers place) state place) (both_states (cell (meaning pile.now) (held paper.now).numbers place)) }
+    ensures { result ≡ answered (cell_meets (cell (P.meaning pile.now) (held paper.now).numbers place) state place) (both_states (cell (P.meaning pile.now) (held paper.now).numbers place)) }
 {
     let Some((from, to, _, _)) = edge_at(pile, paper, place) else {
         return Err(DocketFault::NoEdge(place));
@@ -79,7 +79,7 @@ pub(crate) fn walk_row<P: Transducer>(
     width: u32,
 ) -> Result<Walk, DocketFault>
     requires { start + width < 4294967296 }
-    ensures { result ≡ walked (meaning pile.now) (held paper.now).numbers start width }
+    ensures { result ≡ walked (P.meaning pile.now) (held paper.now).numbers start width }
 {
     let mut origin = None;
     let mut state = None;
@@ -93,7 +93,7 @@ pub(crate) fn walk_row<P: Transducer>(
 
 // The rule of a strip: a walk.
 pub(crate) fn check_strip<P: Transducer>(pile: &P, paper: &Paper<'_>) -> Result<(), DocketFault>
-    ensures { result ≡ strip (meaning pile.now) (held paper.now).numbers }
+    ensures { result ≡ strip (P.meaning pile.now) (held paper.now).numbers }
 {
     walk_row(pile, paper, 0, paper.len())?;
     Ok(())
@@ -107,7 +107,7 @@ pub(crate) fn close_row<P: Transducer>(
     width: u32,
 ) -> Result<(), DocketFault>
     requires { start + width < 4294967296 }
-    ensures { result ≡ closed_row (meaning pile.now) (held paper.now).numbers start width }
+    ensures { result ≡ closed_row (P.meaning pile.now) (held paper.now).numbers start width }
 {
     let walk = walk_row(pile, paper, start, width)?;
     if !same(walk.origin, walk.state) {
@@ -118,7 +118,7 @@ pub(crate) fn close_row<P: Transducer>(
 
 // The rule of a ring: a closed walk.
 pub(crate) fn check_ring<P: Transducer>(pile: &P, paper: &Paper<'_>) -> Result<(), DocketFault>
-    ensures { result ≡ ring (meaning pile.now) (held paper.now).numbers }
+    ensures { result ≡ ring (P.meaning pile.now) (held paper.now).numbers }
 {
     close_row(pile, paper, 0, paper.len())
 }

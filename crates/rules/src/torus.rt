@@ -57,7 +57,7 @@ fn meet_above<P: Transducer>(
     requires is_wide { wide ≡ width (held paper.now).numbers }
     requires is_size { size ≡ width (held paper.now).numbers * rows (held paper.now).numbers }
     requires within { (i < size) × ((wide ≤ size) × (size < 65000000)) }
-    ensures { result ≡ meets_above (meaning pile.now) (held paper.now).numbers i }
+    ensures { result ≡ meets_above (P.meaning pile.now) (held paper.now).numbers i }
 {
     let up = cell_above(i, wide, size);
     if !stacked(edge_at(pile, paper, 2 + i), edge_at(pile, paper, 2 + up)) {
@@ -75,7 +75,7 @@ fn close_at<P: Transducer>(
 ) -> Result<(), DocketFault>
     requires is_wide { wide ≡ width (held paper.now).numbers }
     requires within { (wide ≤ 8062) × (k < 8062) }
-    ensures { result ≡ torus_row (meaning pile.now) (held paper.now).numbers k }
+    ensures { result ≡ torus_row (P.meaning pile.now) (held paper.now).numbers k }
 {
     close_row(pile, paper, 2 + k * wide, wide)
 }
@@ -89,7 +89,7 @@ fn close_rows<P: Transducer>(
     requires is_wide { wide ≡ width (held paper.now).numbers }
     requires is_high { high ≡ rows (held paper.now).numbers }
     requires within { (wide ≤ 8062) × (high ≤ 8062) }
-    ensures { result ≡ first (torus_row (meaning pile.now) (held paper.now).numbers) (rows (held paper.now).numbers) }
+    ensures { result ≡ first (torus_row (P.meaning pile.now) (held paper.now).numbers) (rows (held paper.now).numbers) }
 {
     for k in 0..high {
         close_at(pile, paper, k, wide)?;
@@ -106,7 +106,7 @@ fn meet_rows<P: Transducer>(
     requires is_wide { wide ≡ width (held paper.now).numbers }
     requires is_size { size ≡ width (held paper.now).numbers * rows (held paper.now).numbers }
     requires within { (wide ≤ size) × (size < 65000000) }
-    ensures { result ≡ first (meets_above (meaning pile.now) (held paper.now).numbers) (width (held paper.now).numbers * rows (held paper.now).numbers) }
+    ensures { result ≡ first (meets_above (P.meaning pile.now) (held paper.now).numbers) (width (held paper.now).numbers * rows (held paper.now).numbers) }
 {
     for i in 0..size {
         meet_above(pile, paper, i, wide, size)?;
@@ -116,7 +116,7 @@ fn meet_rows<P: Transducer>(
 
 // The rule of a torus.
 pub(crate) fn check_torus<P: Transducer>(pile: &P, paper: &Paper<'_>) -> Result<(), DocketFault>
-    ensures { result ≡ torus (meaning pile.now) (held paper.now).numbers }
+    ensures { result ≡ torus (P.meaning pile.now) (held paper.now).numbers }
 {
     if !fair_shape(paper) {
         return Err(DocketFault::Shape);

@@ -37,7 +37,7 @@ pub(crate) fn links_of<T: Transducer>(
     below: &T,
     way: Way,
 ) -> Result<Vec<Link>, AllocError>
-    ensures { IfOk result (λ v. v.items ≡ links_in (meaning below.now) way) }
+    ensures { IfOk result (λ v. v.items ≡ links_in (T.meaning below.now) way) }
 {
     let mut links = Vec::new(heap);
     for i in 0..below.slots() {

@@ -18,7 +18,7 @@ pub struct Trim<T> {
 
 // The states from which edges can be followed for ever one way.
 fn lasting<T: Transducer>(heap: Global, below: &T, way: Way) -> Result<Vec<bool>, AllocError>
-    ensures { IfOk result (λ v. (vec_len v ≡ (meaning below.now).states) × LargestBy (meaning below.now) way (listed v.items)) }
+    ensures { IfOk result (λ v. (vec_len v ≡ (T.meaning below.now).states) × LargestBy (T.meaning below.now) way (listed v.items)) }
 {
     let links = links_of(heap, below, way)?;
     drain(heap, below.states(), &links)
@@ -36,7 +36,7 @@ fn keep_common(states: &mut [bool], other: &[bool])
 
 // The states from which edges can be followed for ever both ways.
 fn thriving<T: Transducer>(heap: Global, below: &T) -> Result<Vec<bool>, AllocError>
-    ensures { IfOk result (λ v. Largest (meaning below.now) (listed v.items)) }
+    ensures { IfOk result (λ v. Largest (T.meaning below.now) (listed v.items)) }
 {
     let mut kept = lasting(heap, below, Way::Forward)?;
     let reached = lasting(heap, below, Way::Backward)?;
@@ -47,7 +47,7 @@ fn thriving<T: Transducer>(heap: Global, below: &T) -> Result<Vec<bool>, AllocEr
 impl<T: Transducer + Drop> Trim<T> {
     // Keeps the largest set of states that thrives.
     pub fn new(heap: Global, below: T) -> Result<Trim<T>, AllocError>
-        ensures { IfOk result (λ t. (t.below ≡ below) × Largest (meaning below) (kept_set t)) }
+        ensures { IfOk result (λ t. (t.below ≡ below) × Largest (T.meaning below) (kept_set t)) }
     {
         let kept = thriving(heap, &below)?;
         Ok(Trim { below, kept })

@@ -10,26 +10,26 @@ use transducers::{Stack, Transducer, Turn};
 use trimming::Trim;
 
 fn two_high<B: Transducer + Drop>(a: B, b: B) -> Result<Pile<B>, PileFault>
-    ensures { MatchResult result (λ p. PileOf TwoHigh (meaning a) (meaning b) (meaning a) (meaning b) (pile_meaning B.Transducer.meaning p)) (λ f. StackedRefused TwoHigh f (meaning a) (meaning b) (meaning a) (meaning b)) }
+    ensures { MatchResult result (λ p. PileOf TwoHigh (B.meaning a) (B.meaning b) (B.meaning a) (B.meaning b) (pile_meaning B.Transducer.meaning p)) (λ f. StackedRefused TwoHigh f (B.meaning a) (B.meaning b) (B.meaning a) (B.meaning b)) }
 {
     Ok(Pile::TwoHigh(Stack::new(a, b)?))
 }
 
 fn trimmed<B: Transducer + Drop>(heap: Global, a: B) -> Result<Pile<B>, PileFault>
-    ensures { MatchResult result (λ p. PileOf Trimmed (meaning a) (meaning a) (meaning a) (meaning a) (pile_meaning B.Transducer.meaning p)) (λ f. StackedRefused Trimmed f (meaning a) (meaning a) (meaning a) (meaning a)) }
+    ensures { MatchResult result (λ p. PileOf Trimmed (B.meaning a) (B.meaning a) (B.meaning a) (B.meaning a) (pile_meaning B.Transducer.meaning p)) (λ f. StackedRefused Trimmed f (B.meaning a) (B.meaning a) (B.meaning a) (B.meaning a)) }
 {
     Ok(Pile::Trimmed(Trim::new(heap, a)?))
 }
 
 fn trimmed_two_high<B: Transducer + Drop>(heap: Global, a: B, b: B) -> Result<Pile<B>, PileFault>
-    ensures { MatchResult result (λ p. PileOf TrimmedTwoHigh (meaning a) (meaning b) (meaning a) (meaning b) (pile_meaning B.Transducer.meaning p)) (λ f. StackedRefused TrimmedTwoHigh f (meaning a) (meaning b) (meaning a) (meaning b)) }
+    ensures { MatchResult result (λ p. PileOf TrimmedTwoHigh (B.meaning a) (B.meaning b) (B.meaning a) (B.meaning b) (pile_meaning B.Transducer.meaning p)) (λ f. StackedRefused TrimmedTwoHigh f (B.meaning a) (B.meaning b) (B.meaning a) (B.meaning b)) }
 {
     let pair = Stack::new(a, b)?;
     Ok(Pile::TrimmedTwoHigh(Trim::new(heap, pair)?))
 }
 
 fn four_high<B: Transducer + Drop>(a: B, b: B, c: B, d: B) -> Result<Pile<B>, PileFault>
-    ensures { MatchResult result (λ p. PileOf FourHigh (meaning a) (meaning b) (meaning c) (meaning d) (pile_meaning B.Transducer.meaning p)) (λ f. StackedRefused FourHigh f (meaning a) (meaning b) (meaning c) (meaning d)) }
+    ensures { MatchResult result (λ p. PileOf FourHigh (B.meaning a) (B.meaning b) (B.meaning c) (B.meaning d) (pile_meaning B.Transducer.meaning p)) (λ f. StackedRefused FourHigh f (B.meaning a) (B.meaning b) (B.meaning c) (B.meaning d)) }
 {
     let lower = Stack::new(a, b)?;
     let upper = Stack::new(c, d)?;
@@ -45,7 +45,7 @@ pub fn make_pile<B: Transducer + Drop>(
     c: B,
     d: B,
 ) -> Result<Pile<B>, PileFault>
-    ensures { MatchResult result (λ p. PileOf kind (meaning a) (meaning b) (meaning c) (meaning d) (pile_meaning B.Transducer.meaning p)) (λ f. StackedRefused kind f (meaning a) (meaning b) (meaning c) (meaning d)) }
+    ensures { MatchResult result (λ p. PileOf kind (B.meaning a) (B.meaning b) (B.meaning c) (B.meaning d) (pile_meaning B.Transducer.meaning p)) (λ f. StackedRefused kind f (B.meaning a) (B.meaning b) (B.meaning c) (B.meaning d)) }
 {
     match kind {
         PileKind::Plain => Ok(Pile::Plain(a)),

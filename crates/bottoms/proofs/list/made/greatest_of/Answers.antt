@@ -1,4 +1,4 @@
-use Rattle.std.proofs.Common.{arith, rules}
+use Rattle.std.proofs.Common.{arith}
 use Rattle.bottoms.specs.Tiles.{blank, tile_state, tile_letter}
 use Rattle.bottoms.specs.Greatest.{greatest_more, greatest_all}
 use Rattle.bottoms.proofs.list.made.greatest_of.Goals as goal

@@ -6,7 +6,7 @@ use Rattle.trimming.proofs.drain.work.count_links.Goals as goal
 
 pub loop-link-init : goal.loop-link-init
 loop-link-init c =
-    subst (Counted c.args.states c.args.links.now 0) (sym (c.in_ok-counts.ensures.items-if-clones-equal (λ y e. e))) (counted_none _ _)
+    subst (Counted c.args.states c.args.links.now 0) (sym (c.in_ok-counts.ensures.items_if_clones_equal (λ y e. e))) (counted_none _ _)
 
 pub index_mut-requires : goal.index_mut-requires
 index_mut-requires c = omega (arith, (c.requires.within _ c.loop-link-test.true).0, c.loop-link.invariant.size, c.loop-link.counts.ok.0)

@@ -5,7 +5,7 @@ use Rattle.trimming.proofs.Linking.{chained_none, chained_more}
 use Rattle.trimming.proofs.drain.chains.Chains.new.Goals as goal
 
 pub loop-i-init : goal.loop-i-init
-loop-i-init c = rw (c.in_ok-last.ensures.items-if-clones-equal (λ y e. e), c.new-next.ensures.items) (chained_none _ _ c.requires.within)
+loop-i-init c = rw (c.in_ok-last.ensures.items_if_clones_equal (λ y e. e), c.new-next.ensures.items) (chained_none _ _ c.requires.within)
 
 pub loop-i-preserved : goal.loop-i-preserved
 loop-i-preserved c =

@@ -7,5 +7,5 @@ pub returns : goal.returns
 returns c =
     let ls = c.args.links.now in
     subst (λ kept. Draining c.args.states ls (leads ls kept) kept (vec_items c.in_ok-counts.counts) (vec_items c.in_ok-doubted.doubted))
-    (sym (c.in_ok-kept.ensures.items-if-clones-equal (λ y e. e)))
+    (sym (c.in_ok-kept.ensures.items_if_clones_equal (λ y e. e)))
     (draining_starts _ ls c.requires.within _ _ c.in_ok-counts.ensures c.in_ok-doubted.ensures)
