@@ -1,5 +1,5 @@
 -- Rows of cells. A cell is a slot number in a paper; a row of width w at place b is the cells at places b to b + w - 1. Assumes nothing.
-use Rattle.std.specs.Prelude.{ℕ, ◌+◌, ◌-◌, Bool, true, false, cond, List, length, Some, None, Ok, Err, Option, Result, ◌==◌, slice_index}
+use Rattle.std.specs.Prelude.{ℕ, ◌+◌, ◌-◌, Bool, true, false, cond, List, length, Some, None, Err, Option, ◌==◌, slice_index}
 use Rattle.std.specs.Option.{option_map}
 use Rattle.papers.specs.First.{Verdict, must, ◌then◌, first}
 use Rattle.transducers.specs.Meaning.{Edge, Meaning, from, to}

@@ -1,5 +1,5 @@
 -- The rule of a torus: rows of one width that close, each under the next, and the top row under the bottom row. Assumes nothing.
-use Rattle.std.specs.Prelude.{ℕ, ◌+◌, ◌-◌, ◌*◌, Bool, true, false, cond, ◌&&◌, List, length, Some, None, Option, ◌==◌, nat_le, nat_lt, slice_index}
+use Rattle.std.specs.Prelude.{ℕ, ◌+◌, ◌-◌, ◌*◌, Bool, false, cond, ◌&&◌, List, length, Some, None, Option, ◌==◌, nat_le, nat_lt, slice_index}
 use Rattle.papers.specs.First.{Verdict, must, ◌then◌, first}
 use Rattle.transducers.specs.Meaning.{Edge, Meaning, south, north}
 use Rattle.rules.specs.Rows.{cell, closed_row}

@@ -1,5 +1,5 @@
 -- Widths, and the two that a docket keeps. Assumes nothing.
-use Rattle.std.specs.Prelude.{ℕ, min, max}
+use Rattle.std.specs.Prelude.{min, max}
 use Rattle.rules.specs.declared.width.Claim.{Claim}
 use Rattle.rules.specs.declared.width.Claim.TheVariants.{Reaches, Limits}
 use Rattle.rules.specs.declared.width.Ends.{Ends}

@@ -1,4 +1,6 @@
 // The four rules: what a paper that was read shows of a transducer, or its first fault; and the two widths that this moves.
+#![tactic(auto)]
+
 mod fault;
 mod judging;
 mod ranks;

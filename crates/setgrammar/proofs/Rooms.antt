@@ -4,7 +4,7 @@ use Rattle.std.proofs.ByRecursion.{All-push}
 use Rattle.std.proofs.lemmas.List.{append-nil, length-append}
 use Rattle.bottoms.specs.declared.tile.Tile.{Tile}
 use Rattle.setgrammar.proofs.Stands.{Stands, Takes, next, stands_next, in_turn, tiles_append, all_tiles}
-use Rattle.setgrammar.specs.Grammar.{Line, pile, row, tile, Good, tiles_in, Says, Begins, laid}
+use Rattle.setgrammar.specs.Grammar.{Line, row, tile, Good, tiles_in, Says, Begins, laid}
 use Rattle.setgrammar.specs.Lines.{State, said}
 use Rattle.setgrammar.specs.declared.fault.Position.{Position}
 use Rattle.setgrammar.specs.declared.fault.TextFault.TheVariants.{Ends}

@@ -1,5 +1,5 @@
 -- The lines of a set text. Assumes nothing.
-use Rattle.std.specs.Prelude.{ℕ, zero, suc, ◌+◌, Bool, true, false, cond, ◌||◌, List, [], ◌∷◌, length, set, Ok, Err, Result, ◌==◌, nat_le, slice_index, slice_set}
+use Rattle.std.specs.Prelude.{ℕ, zero, suc, ◌+◌, Bool, true, false, cond, ◌||◌, List, [], ◌∷◌, length, Ok, Err, Result, ◌==◌, nat_le, slice_index, slice_set}
 use Rattle.bottoms.specs.declared.tile.Tile.{Tile}
 use Rattle.setgrammar.specs.Items.{fields_at, note_at}
 use Rattle.setgrammar.specs.Place.{Place, start_of, Read, ◌then◌, byte_at}

@@ -1,4 +1,6 @@
 // What a set text says, and its faults: the grammar of its lines, and the law of reading them.
+#![tactic(auto)]
+
 mod fault;
 mod line;
 mod set;

@@ -1,5 +1,5 @@
 -- Draining a set of states: a state without a link to a state that is left goes. Assumes nothing.
-use Rattle.std.specs.Prelude.{◌≡◌, ℕ, zero, suc, ◌+◌, ◌-◌, ◌<◌, ◌≤◌, Bool, true, false, cond, ◌&&◌, ◌||◌, List, [], ◌∷◌, ◌++◌, length, set, sum, ◌==◌, nat_lt, slice_index, slice_index_or, slice_set}
+use Rattle.std.specs.Prelude.{◌≡◌, ℕ, zero, suc, ◌+◌, ◌-◌, ◌<◌, ◌≤◌, Bool, true, false, cond, ◌&&◌, ◌||◌, List, [], ◌∷◌, ◌++◌, length, sum, ◌==◌, nat_lt, slice_index, slice_index_or, slice_set}
 use Rattle.trimming.specs.Trimming.{States, listed}
 use Rattle.trimming.specs.declared.links.Link.{Link}
 
