@@ -1,4 +1,6 @@
 // A docket over a transducer: papers are filed, and two widths kept.
+#![tactic(auto)]
+
 mod docket;
 mod tally;
 

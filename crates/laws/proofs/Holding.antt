@@ -1,5 +1,5 @@
 -- The promise, from soundness and the either_or. Assumes nothing.
-use Rattle.std.proofs.Common.{◌≡◌, ℕ, zero, suc, ◌+◌, ◌^◌, ◌<◌, ◌≤◌, min, max, ◌⊎◌, ◌↔◌, List, [], ◌∷◌, map, length, get_or, Some, Ok, Err, Result, sym, refl, ap, ◌∙◌, subst, inl, inr, arith}
+use Rattle.std.proofs.Common.{◌≡◌, ℕ, zero, suc, ◌+◌, ◌^◌, ◌<◌, ◌≤◌, min, max, ◌↔◌, List, [], ◌∷◌, map, length, get_or, Ok, Err, Result, sym, refl, ap, ◌∙◌, subst, inl, inr, arith}
 use Rattle.std.proofs.lemmas.List.FromFn.{get_or-map-range_with_len, length-map-range_with_len}
 use Rattle.std.proofs.lemmas.Bool.{cases_lt}
 use Rattle.std.specs.List.{range_with_len}
@@ -11,13 +11,13 @@ use Rattle.papers.specs.declared.kind.Kind.TheVariants.{Strip as OfStrip, Ring a
 use Rattle.papers.proofs.Lengths.{some_numbers}
 use Rattle.papers.proofs.Order.{passed}
 use Rattle.papers.proofs.Written.{written}
-use Rattle.transducers.specs.Meaning.{Edge, Meaning, Valid, from, to}
+use Rattle.transducers.specs.Meaning.{Meaning, Valid, from, to}
 use Rattle.transducers.specs.Stacking.{Copies}
 use Rattle.rules.specs.Filing.{ends_after, judged, judged_contents, rule, shows}
 use Rattle.laws.specs.Promise.{Call, Holds, KeepsCeiling, NothingMoves, Promise, ReachesFloor, TakesTorus, after_call, after_calls, reached}
 use Rattle.laws.specs.Promise.Call.{files, asks_ends, asks_tally}
 use Rattle.rules.specs.Ranks.{height, highest}
-use Rattle.laws.specs.Walking.{Falls, HasStrip, RankingOn, Ring, Strip, Walk}
+use Rattle.laws.specs.Walking.{HasStrip, RankingOn, Ring, Walk}
 use Rattle.rules.specs.Widths.{fresh_ends, moved, narrower, wider}
 use Rattle.rules.specs.declared.fault.DocketFault.{DocketFault}
 use Rattle.rules.specs.declared.width.Claim.{Claim}
@@ -27,8 +27,8 @@ use Rattle.rules.specs.declared.width.Width.{Width}
 use Rattle.rules.specs.declared.width.Width.TheVariants.{Number, Endless}
 use Rattle.laws.proofs.Bands.{torus_ring}
 use Rattle.laws.proofs.EitherOr.{either_or}
-use Rattle.laws.proofs.Kept.{Sound, below_highest, judged_sound, ranking_limits, ring_reaches}
-use Rattle.laws.proofs.Paths.{ring_strips, walk_slot, walk_some}
+use Rattle.laws.proofs.Kept.{Sound, judged_sound, ranking_limits, ring_reaches}
+use Rattle.laws.proofs.Paths.{ring_strips, walk_slot}
 use Rattle.laws.proofs.Ranked.{Ranked}
 use Rattle.laws.proofs.RuleLaws.{ranking_law, ring_law, strip_law}
 use Rattle.laws.proofs.TorusLaws.{torus_law}

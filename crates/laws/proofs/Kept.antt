@@ -1,19 +1,17 @@
 -- What an accepted paper shows is so. Assumes nothing.
-use Rattle.std.proofs.Common.{◌≡◌, ℕ, zero, suc, ◌+◌, ◌<◌, ◌≤◌, max, List, length, get_or, Some, Ok, Err, Result, sym, refl, ap, ◌∙◌, subst, inl, inr, arith}
+use Rattle.std.proofs.Common.{◌≡◌, ℕ, zero, suc, ◌<◌, ◌≤◌, List, length, get_or, Ok, Err, Result, sym, refl, ap, subst, inl, inr, arith}
 use Rattle.std.proofs.lemmas.Bool.{cases_lt}
-use Rattle.papers.specs.First.{answered}
 use Rattle.papers.specs.Paper.{Contents, contents_of}
 use Rattle.papers.specs.declared.fault.PaperFault.{PaperFault}
 use Rattle.papers.specs.declared.kind.Kind.{Kind}
 use Rattle.papers.specs.declared.kind.Kind.TheVariants.{Strip as OfStrip, Ring as OfRing, Ranking as OfRanking, Torus as OfTorus}
 use Rattle.papers.proofs.Lengths.{some_numbers}
 use Rattle.papers.proofs.Order.{answer_of, passed}
-use Rattle.transducers.specs.Meaning.{Edge, Meaning, Valid, from, to}
-use Rattle.rules.specs.Filing.{judged, judged_contents, rule, shows, weighed}
+use Rattle.transducers.specs.Meaning.{Meaning, Valid}
+use Rattle.rules.specs.Filing.{judged, judged_contents, rule, shows}
 use Rattle.laws.specs.Promise.{KeepsCeiling, ReachesFloor}
 use Rattle.rules.specs.Ranks.{height, highest}
-use Rattle.laws.specs.Walking.{Falls, HasStrip, RankingOn, Ring, Strip, TorusOn}
-use Rattle.rules.specs.declared.fault.DocketFault.{DocketFault}
+use Rattle.laws.specs.Walking.{RankingOn, Ring, TorusOn}
 use Rattle.rules.specs.declared.width.Claim.{Claim}
 use Rattle.rules.specs.declared.width.Claim.TheVariants.{Reaches, Limits}
 use Rattle.rules.specs.declared.width.Width.TheVariants.{Number, Endless}

@@ -1,14 +1,13 @@
 -- A row that passes is a walk, and one that closes is a closed walk. Assumes nothing.
-use Rattle.std.proofs.Common.{◌≡◌, ℕ, zero, suc, ◌+◌, ◌-◌, ◌<◌, ◌≤◌, Bool, true, false, cond, eqb, ◌↔◌, List, length, get_or, take, drop, Some, None, Ok, Err, Option, sym, refl, ap, ◌∙◌, subst, add-zero, arith}
+use Rattle.std.proofs.Common.{◌≡◌, ℕ, zero, suc, ◌+◌, ◌-◌, ◌<◌, ◌≤◌, Bool, true, false, eqb, ◌↔◌, List, length, get_or, take, drop, Some, None, Ok, Option, sym, refl, ap, ◌∙◌, subst, add-zero, arith}
 use Rattle.std.proofs.lemmas.List.{get_or-drop, get_or-take, length-drop, length-take}
 use Rattle.std.proofs.lemmas.Bool.{eqb-true, eq-eqb, ne_eqb}
 use Rattle.std.specs.Option.{option_map}
-use Rattle.papers.specs.First.{Verdict, must, ◌then◌, first}
+use Rattle.papers.specs.First.{must}
 use Rattle.papers.proofs.FirstLaws.{first_passes, both_pass, pass_both}
 use Rattle.transducers.specs.Meaning.{Edge, Meaning, from, to}
 use Rattle.rules.specs.Rows.{arrival, cell, cell_meets, closed_row, column, leaves, origin, row, same_state}
 use Rattle.laws.specs.Walking.{Walk, Strip, Ring}
-use Rattle.rules.specs.declared.fault.DocketFault.{DocketFault}
 use Rattle.laws.proofs.Chains.{Chain, chain_from_walk, same_edge, walk_from_chain}
 
 -- the cells of a row

@@ -1,7 +1,6 @@
 -- Each rule's tests pass exactly where it is kept, and answer a fault exactly where that fault's law holds. Assumes nothing.
-use Rattle.std.proofs.Common.{◌≡◌, ℕ, ◌+◌, ◌*◌, ◌<◌, ◌≤◌, Bool, true, false, not, eqb, ltb, leb, List, length, Some, None, Decides, Option, refl, ap, subst, mul-le-mul_right, mul-le-mul_left, arith}
-use Rattle.std.proofs.lemmas.Bool.{both_ways, eqb-false, eqb-true, eq-eqb, leb-false, leb-true, ltb-false, ltb-true, ne_eqb, not_from_false}
-use Rattle.std.proofs.lemmas.Bool.Decides.{nat_tests}
+use Rattle.std.proofs.Common.{◌≡◌, ℕ, ◌+◌, ◌*◌, ◌<◌, ◌≤◌, Bool, true, false, not, eqb, ltb, leb, List, length, Some, None, Option, refl, ap, subst, arith}
+use Rattle.std.proofs.lemmas.Bool.{both_ways, eqb-false, eqb-true, leb-false, leb-true, ltb-false, ltb-true, ne_eqb, not_from_false}
 use Rattle.papers.specs.First.{must, ◌then◌}
 use Rattle.papers.specs.declared.kind.Kind.{Kind}
 use Rattle.papers.specs.declared.kind.Kind.TheVariants.{Strip as OfStrip, Ring as OfRing, Ranking as OfRanking, Torus as OfTorus}
@@ -10,14 +9,13 @@ use Rattle.laws.specs.Accepted.{CellUnder, ClosedFault, RankFault, RowFault, Row
 use Rattle.rules.specs.Filing.{rule}
 use Rattle.rules.specs.Ranks.{edge_falls, rank, ranking}
 use Rattle.rules.specs.Rows.{ring, strip}
-use Rattle.rules.specs.Torus.{fair_shape, meets_above, row_start, rows, stacks, torus, torus_row, width}
-use Rattle.laws.specs.Walking.{RankingOn, Ring, Strip, TorusOn, Under}
+use Rattle.rules.specs.Torus.{meets_above, row_start, rows, torus, torus_row, width}
+use Rattle.laws.specs.Walking.{RankingOn, Ring, Strip, TorusOn}
 use Rattle.rules.specs.declared.fault.DocketFault.{DocketFault}
 use Rattle.rules.specs.declared.fault.DocketFault.TheVariants.{ApartAbove, HighRank, NoFall, RankCount, Shape}
 use Rattle.laws.proofs.Chains.{same_edge}
 use Rattle.laws.proofs.RowFaults.{closed_row_says, no_edge, row_says}
 use Rattle.laws.proofs.RuleLaws.{ranking_law, ring_law, strip_law}
-use Rattle.rules.proofs.Sides.{sides}
 use Rattle.laws.proofs.TorusLaws.{row_fits, torus_law}
 use Rattle.laws.proofs.TorusTests.{shape_decides, under_decides}
 use Rattle.laws.proofs.Verdicts.{Says, decided_says, first_says, must_says, pass_says, says_as, then_says}

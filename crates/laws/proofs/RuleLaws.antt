@@ -1,13 +1,13 @@
 -- Each rule's tests pass exactly where its relation holds. Assumes nothing.
-use Rattle.std.proofs.Common.{◌≡◌, ℕ, zero, suc, ◌+◌, ◌-◌, ◌*◌, ◌<◌, ◌≤◌, Bool, true, false, cond, not, ◌&&◌, eqb, ltb, leb, ◌⊎◌, ◌↔◌, List, length, get_or, take, drop, Some, None, Ok, Err, Option, sym, refl, ap, ◌∙◌, subst, inl, inr, arith}
+use Rattle.std.proofs.Common.{◌≡◌, ℕ, ◌<◌, ◌≤◌, not, eqb, ◌↔◌, List, length, get_or, Some, None, Ok, Option, sym, refl, ap, subst, inl, inr, arith}
 use Rattle.std.proofs.lemmas.List.{take_all}
 use Rattle.std.proofs.lemmas.Bool.{cases_lt, eqb-true, eq-eqb, ne_eqb, leb-true, le-leb, ltb-true, lt-ltb, not_from_false}
-use Rattle.papers.specs.First.{Verdict, must, ◌then◌, first}
+use Rattle.papers.specs.First.{must, first}
 use Rattle.papers.proofs.FirstLaws.{first_passes, both_pass, pass_both}
-use Rattle.transducers.specs.Meaning.{Edge, Meaning, Valid, from, to, south, north}
+use Rattle.transducers.specs.Meaning.{Edge, Meaning, Valid, from, to}
 use Rattle.rules.specs.Ranks.{edge_falls, rank_fits, ranking, slot_falls}
-use Rattle.rules.specs.Rows.{cell, closed_row, ring, row, strip}
-use Rattle.laws.specs.Walking.{Falls, RankingOn, Ring, Strip, TorusOn}
+use Rattle.rules.specs.Rows.{ring, strip}
+use Rattle.laws.specs.Walking.{RankingOn, Ring, Strip}
 use Rattle.laws.proofs.RowLaws.{closed_law, must_true, part, row_law, true_must}
 
 module _ (m : Meaning) (xs : List ℕ) where

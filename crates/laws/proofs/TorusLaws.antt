@@ -1,16 +1,16 @@
 -- The tests of a torus pass exactly where it is one. Assumes nothing.
-use Rattle.std.proofs.Common.{◌≡◌, ℕ, zero, suc, ◌+◌, ◌-◌, ◌*◌, ◌/◌, ◌%◌, ◌<◌, ◌≤◌, Bool, true, false, cond, ◌&&◌, eqb, ltb, leb, ◌⊎◌, ◌↔◌, List, length, get_or, take, drop, Some, None, Ok, Err, Option, sym, refl, ap, ◌∙◌, subst, inl, inr, mul_comm, add-mul, one-mul, zero-mul, arith}
-use Rattle.std.proofs.lemmas.Nat.{div-add-mod', div_below, mod_below, mul-add-lt, mul-le}
+use Rattle.std.proofs.Common.{◌≡◌, ℕ, ◌+◌, ◌-◌, ◌*◌, ◌/◌, ◌%◌, ◌<◌, ◌≤◌, true, ◌↔◌, List, length, get_or, Ok, sym, refl, ap, ◌∙◌, subst, inl, inr, mul_comm, add-mul, one-mul, zero-mul, arith}
+use Rattle.std.proofs.lemmas.Nat.{div-add-mod', div_below, mod_below, mul-add-lt}
 use Rattle.std.proofs.lemmas.Bool.{cases_lt, le-ltb, lt-ltb}
-use Rattle.papers.specs.First.{must, ◌then◌, first}
+use Rattle.papers.specs.First.{must, first}
 use Rattle.papers.proofs.FirstLaws.{first_passes, both_pass, pass_both}
-use Rattle.transducers.specs.Meaning.{Edge, Meaning, north, south}
+use Rattle.transducers.specs.Meaning.{Meaning}
 use Rattle.rules.specs.Rows.{cell}
-use Rattle.rules.specs.Torus.{above, fair_shape, fair_side, meets_above, rows, stacks, torus, torus_row, width}
-use Rattle.laws.specs.Walking.{Ring, TorusOn, Under, next_row}
+use Rattle.rules.specs.Torus.{above, fair_shape, meets_above, rows, stacks, torus, torus_row, width}
+use Rattle.laws.specs.Walking.{TorusOn, Under, next_row}
 use Rattle.laws.proofs.RowLaws.{closed_law, must_true, true_must}
 use Rattle.laws.proofs.TorusTests.{shape_decides, under_decides}
-use Rattle.rules.proofs.Sides.{Sides, sides}
+use Rattle.rules.proofs.Sides.{sides}
 
 -- a row lies within the cells
 pub row_fits : (w r y : ℕ) → 1 ≤ w → y < r → y * w + w ≤ w * r

@@ -1,5 +1,5 @@
 -- The promise of the two widths: what holds of a docket over a transducer after every list of calls. Assumes nothing.
-use Rattle.std.specs.Prelude.{◌≡◌, ℕ, zero, suc, ◌<◌, ◌≤◌, ◌⊎◌, ◌↔◌, List, [], ◌∷◌, length, Ok}
+use Rattle.std.specs.Prelude.{◌≡◌, ℕ, ◌<◌, ◌≤◌, ◌⊎◌, ◌↔◌, List, [], ◌∷◌, Ok}
 use Rattle.papers.specs.Bytes.{Bytes}
 use Rattle.papers.specs.Paper.{Contents, contents_of}
 use Rattle.papers.specs.declared.kind.Kind.TheVariants.{Torus}
