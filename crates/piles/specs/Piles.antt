@@ -48,20 +48,37 @@ PileOf Trimmed a b c d m = TrimOf a m
 PileOf TrimmedTwoHigh a b c d m = TrimOf (stack a b) m
 PileOf FourHigh a b c d m = m ≡ stack (stack a b) (stack c d)
 
--- the stack of two transducers is within the limits
-abbrev pub StackFits : Meaning → Meaning → Type 0
-StackFits l u = ((stack l u).states ≤ 4096) × ((stack l u).slots ≤ 1048576)
-
--- the first stack of the pile that passes a limit: the lower pair, the upper pair, the pair of pairs
+-- a stack of the pile is refused
 abbrev pub StackedRefused : PileKind → PileFault → Meaning → Meaning → Meaning → Meaning → Type 0
 StackedRefused TwoHigh (fault.Stack f) a b c d = StackRefused f a b
 StackedRefused TrimmedTwoHigh (fault.Stack f) a b c d = StackRefused f a b
 StackedRefused FourHigh (fault.Stack f) a b c d =
-    StackRefused f a b
-    ⊎ (StackFits a b × (StackRefused f c d ⊎ (StackFits c d × StackRefused f (stack a b) (stack c d))))
+    StackRefused f a b ⊎ (StackRefused f c d ⊎ StackRefused f (stack a b) (stack c d))
 StackedRefused Plain (fault.Stack f) a b c d = ⊥
 StackedRefused Turned (fault.Stack f) a b c d = ⊥
 StackedRefused Trimmed (fault.Stack f) a b c d = ⊥
 StackedRefused k fault.List a b c d = ⊥
 StackedRefused k fault.Row a b c d = ⊥
 StackedRefused k fault.Memory a b c d = Unit {0}
+
+-- the stack of two transducers is within the limits
+abbrev pub StackFits : Meaning → Meaning → Type 0
+StackFits l u = ((stack l u).states ≤ 4096) × ((stack l u).slots ≤ 1048576)
+
+-- of four copies, the first stack that passes a limit is refused: the lower pair, the upper pair, the pair of pairs
+abbrev pub FirstOfFourRefused : PileFault → Meaning → Meaning → Meaning → Meaning → Type 0
+FirstOfFourRefused (fault.Stack f) a b c d =
+    StackRefused f a b
+    ⊎ (StackFits a b × (StackRefused f c d ⊎ (StackFits c d × StackRefused f (stack a b) (stack c d))))
+FirstOfFourRefused fault.List a b c d = ⊥
+FirstOfFourRefused fault.Row a b c d = ⊥
+FirstOfFourRefused fault.Memory a b c d = Unit {0}
+
+-- the first stack of the pile that passes a limit is refused; a pile of two copies or of one has no second
+abbrev pub FirstRefused : PileKind → PileFault → Meaning → Meaning → Meaning → Meaning → Type 0
+FirstRefused FourHigh f a b c d = FirstOfFourRefused f a b c d
+FirstRefused TwoHigh f a b c d = StackedRefused TwoHigh f a b c d
+FirstRefused TrimmedTwoHigh f a b c d = StackedRefused TrimmedTwoHigh f a b c d
+FirstRefused Plain f a b c d = StackedRefused Plain f a b c d
+FirstRefused Turned f a b c d = StackedRefused Turned f a b c d
+FirstRefused Trimmed f a b c d = StackedRefused Trimmed f a b c d

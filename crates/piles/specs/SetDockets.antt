@@ -13,7 +13,7 @@ use Rattle.rules.specs.Widths.{fresh_ends}
 use Rattle.rules.specs.declared.width.Ends.{Ends}
 use Rattle.setgrammar.specs.declared.set.SetText.{SetText}
 use Rattle.bottoms.specs.declared.tile.Tile.{Tile}
-use Rattle.piles.specs.Piles.{PileOf, StackedRefused, numbered_pile, pile_meaning}
+use Rattle.piles.specs.Piles.{FirstRefused, PileOf, numbered_pile, pile_meaning}
 use Rattle.piles.specs.declared.pile.PileKind.{PileKind}
 use Rattle.piles.specs.declared.pile_fault.PileFault.{PileFault}
 use Rattle.piles.specs.declared.pile_fault.PileFault.TheVariants as fault
@@ -39,10 +39,13 @@ abbrev pub docket_tallies : SetDocket → List Tally
 docket_tallies (Tiles d) = d.tallies.table
 docket_tallies (Row d) = d.tallies.table
 
--- a new docket over the pile of this kind, all of whose bottoms mean t; the promise holds of it
+-- a new docket over the pile of this kind, all of whose bottoms mean t
 pub record NewOver (k : PileKind) (t : Meaning) (d : SetDocket) : Type 0 where
   pub pile : PileOf k t t t t (docket_meaning d)
   pub ends : docket_ends d ≡ fresh_ends
+
+-- no paper is tallied yet, and the promise of the two widths holds of the docket's pile
+pub record Started (d : SetDocket) : Type 0 where
   pub tallies : docket_tallies d ≡ no_tallies
   pub promise : Promise (docket_meaning d)
 
@@ -50,17 +53,17 @@ pub record NewOver (k : PileKind) (t : Meaning) (d : SetDocket) : Type 0 where
 abbrev pub bottom_of : SetText → List Tile → Meaning
 bottom_of s ts = cond (s.row == 0) (list_meaning (take s.tiles ts)) (catalogue (table_row s.row))
 
+-- a new docket over the pile that a set text names
+abbrev pub OpensSet : SetText → List Tile → SetDocket → Type 0
+OpensSet s ts d = (k : PileKind) × (numbered_pile s.pile ≡ Some k) × NewOver k (bottom_of s ts) d
+
 -- a set text of tiles has no more of them than the list
 abbrev pub TilesThere : SetText → List Tile → Type 0
 TilesThere s ts = s.row ≡ 0 → s.tiles ≤ length ts
 
--- a new docket over the pile that a set text names
-abbrev pub OpensSet : SetText → List Tile → SetDocket → Type 0
-OpensSet s ts d = (k : PileKind) × (numbered_pile s.pile ≡ Some k) × TilesThere s ts × NewOver k (bottom_of s ts) d
-
 -- the first stack of a pile over copies of t is refused so
 abbrev pub CopiesRefused : PileKind → Meaning → PileFault → Type 0
-CopiesRefused k t f = StackedRefused k f t t t t
+CopiesRefused k t f = FirstRefused k f t t t t
 
 -- why no docket over tiles is opened: the list is not of 1 to 1,024 tiles; or else a stack passes a limit, or memory is wanting
 abbrev pub TilesRefused : PileKind → List Tile → PileFault → Type 0

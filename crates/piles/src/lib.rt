@@ -1,4 +1,6 @@
 // The piles that set texts name, and dockets over them.
+#![tactic(auto)]
+
 mod pile;
 mod pile_fault;
 mod set_docket;

@@ -1,6 +1,6 @@
 // Making the pile of a kind from copies of a bottom.
-ghost use Rattle.std.specs.Result.{MatchResult};
-ghost use Rattle.piles.specs.Piles.{PileOf, StackedRefused, pile_meaning};
+ghost use Rattle.std.specs.Prelude.{IfErr, MatchResult};
+ghost use Rattle.piles.specs.Piles.{FirstRefused, PileOf, StackedRefused, pile_meaning};
 ghost use Rattle.piles.specs.declared.pile.PileKind.TheVariants.{FourHigh, Trimmed, TrimmedTwoHigh, TwoHigh};
 
 use crate::pile::{Pile, PileKind};
@@ -29,7 +29,8 @@ fn trimmed_two_high<B: Transducer + Drop>(heap: Global, a: B, b: B) -> Result<Pi
 }
 
 fn four_high<B: Transducer + Drop>(a: B, b: B, c: B, d: B) -> Result<Pile<B>, PileFault>
-    ensures { MatchResult result (λ p. PileOf FourHigh (B.meaning a) (B.meaning b) (B.meaning c) (B.meaning d) (pile_meaning B.Transducer.meaning p)) (λ f. StackedRefused FourHigh f (B.meaning a) (B.meaning b) (B.meaning c) (B.meaning d)) }
+    ensures made { MatchResult result (λ p. PileOf FourHigh (B.meaning a) (B.meaning b) (B.meaning c) (B.meaning d) (pile_meaning B.Transducer.meaning p)) (λ f. StackedRefused FourHigh f (B.meaning a) (B.meaning b) (B.meaning c) (B.meaning d)) }
+    ensures first { IfErr result (λ f. FirstRefused FourHigh f (B.meaning a) (B.meaning b) (B.meaning c) (B.meaning d)) }
 {
     let lower = Stack::new(a, b)?;
     let upper = Stack::new(c, d)?;
@@ -45,7 +46,8 @@ pub fn make_pile<B: Transducer + Drop>(
     c: B,
     d: B,
 ) -> Result<Pile<B>, PileFault>
-    ensures { MatchResult result (λ p. PileOf kind (B.meaning a) (B.meaning b) (B.meaning c) (B.meaning d) (pile_meaning B.Transducer.meaning p)) (λ f. StackedRefused kind f (B.meaning a) (B.meaning b) (B.meaning c) (B.meaning d)) }
+    ensures made { MatchResult result (λ p. PileOf kind (B.meaning a) (B.meaning b) (B.meaning c) (B.meaning d) (pile_meaning B.Transducer.meaning p)) (λ f. StackedRefused kind f (B.meaning a) (B.meaning b) (B.meaning c) (B.meaning d)) }
+    ensures first { IfErr result (λ f. FirstRefused kind f (B.meaning a) (B.meaning b) (B.meaning c) (B.meaning d)) }
 {
     match kind {
         PileKind::Plain => Ok(Pile::Plain(a)),

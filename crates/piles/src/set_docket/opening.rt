@@ -1,8 +1,8 @@
 // Opening a docket over a set's pile.
-ghost use Rattle.std.specs.Prelude.{◌≡◌, MatchResult};
+ghost use Rattle.std.specs.Prelude.{IfErr, IfOk};
 ghost use Rattle.bottoms.specs.Catalogue.{catalogue, table_row};
 ghost use Rattle.bottoms.specs.Tiles.{list_meaning};
-ghost use Rattle.piles.specs.SetDockets.{NewOver, OpensSet, RowRefused, SetRefused, TilesRefused};
+ghost use Rattle.piles.specs.SetDockets.{NewOver, OpensSet, RowRefused, SetRefused, Started, TilesRefused, TilesThere};
 
 use crate::pile::PileKind;
 use crate::pile::making::make_pile;
@@ -16,7 +16,9 @@ use std::alloc::Global;
 impl SetDocket {
     // A docket over a pile of tiles.
     pub fn over_tiles(heap: Global, kind: PileKind, tiles: &[Tile]) -> Result<SetDocket, PileFault>
-        ensures { MatchResult result (λ d. NewOver kind (list_meaning tiles.now) d) (λ f. TilesRefused kind tiles.now f) }
+        ensures opens { IfOk result (λ d. NewOver kind (list_meaning tiles.now) d) }
+        ensures starts { IfOk result Started }
+        ensures refused { IfErr result (λ f. TilesRefused kind tiles.now f) }
     {
         let a = ListTransducer::new(heap, tiles)?;
         let b = ListTransducer::new(heap, tiles)?;
@@ -28,7 +30,9 @@ impl SetDocket {
 
     // A docket over a pile of a catalogue row.
     pub fn over_row(heap: Global, kind: PileKind, row: u8) -> Result<SetDocket, PileFault>
-        ensures { MatchResult result (λ d. NewOver kind (catalogue (table_row row)) d) (λ f. RowRefused kind row f) }
+        ensures opens { IfOk result (λ d. NewOver kind (catalogue (table_row row)) d) }
+        ensures starts { IfOk result Started }
+        ensures refused { IfErr result (λ f. RowRefused kind row f) }
     {
         let bottom = CatalogueTransducer::new(row)?;
         let pile = make_pile(heap, kind, bottom, bottom, bottom, bottom)?;
@@ -37,7 +41,10 @@ impl SetDocket {
 
     // A docket over the pile that a set text names, over its row or over the first of the tiles.
     pub fn of_set(heap: Global, set: SetText, tiles: &[Tile]) -> Result<SetDocket, PileFault>
-        ensures { MatchResult result (λ d. OpensSet set tiles.now d) (λ f. SetRefused set tiles.now f) }
+        ensures opens { IfOk result (λ d. OpensSet set tiles.now d) }
+        ensures starts { IfOk result Started }
+        ensures there { IfOk result (λ _. TilesThere set tiles.now) }
+        ensures refused { IfErr result (λ f. SetRefused set tiles.now f) }
     {
         let count = set.tiles as usize;
         let Some(kind) = PileKind::numbered(set.pile) else {
