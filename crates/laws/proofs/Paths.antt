@@ -3,7 +3,7 @@ use Rattle.std.proofs.Common.{◌≡◌, ℕ, zero, suc, ◌+◌, ◌<◌, ◌�
 use Rattle.std.proofs.ByRecursion.{All-get_or}
 use Rattle.std.proofs.lemmas.List.{length-append, length-take-le}
 use Rattle.std.proofs.lemmas.Bool.{cases_lt}
-use Rattle.std.specs.List.{AllByRecursion as All}
+use Rattle.std.specs.List.{AllByRecursion}
 use Rattle.transducers.specs.Meaning.{Edge, Meaning, Valid, to}
 use Rattle.laws.specs.Walking.{Walk, HasStrip, Ring}
 use Rattle.laws.specs.Walking.Walk.{one, more}
@@ -27,7 +27,7 @@ edge_slot {m} valid i e at =
           absurd (omega arith)
     ]
 
-pub walk_slots : {m : Meaning} {is : List ℕ} {p q : ℕ} → Valid m → Walk m is p q → All (λ i. i < m.slots) is
+pub walk_slots : {m : Meaning} {is : List ℕ} {p q : ℕ} → Valid m → Walk m is p q → AllByRecursion (λ i. i < m.slots) is
 walk_slots valid (one {i} e at) = (edge_slot valid i e at, tt)
 walk_slots valid (more {i} e at w) = (edge_slot valid i e at, walk_slots valid w)
 

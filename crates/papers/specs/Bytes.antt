@@ -1,10 +1,10 @@
 -- Numbers in bytes, least byte first, and a block's check. Assumes nothing.
 use Rattle.std.specs.Prelude.{ℕ, zero, suc, ◌+◌, ◌*◌, ◌<◌, List, slice_index}
-use Rattle.std.specs.List.{AllByRecursion as All}
+use Rattle.std.specs.List.{AllByRecursion}
 
 -- numbers that are bytes
 abbrev pub Bytes : List ℕ → Type 0
-Bytes bs = All (λ b. b < 256) bs
+Bytes bs = AllByRecursion (λ b. b < 256) bs
 
 -- the number of 16 bits at a byte
 abbrev pub half : List ℕ → ℕ → ℕ

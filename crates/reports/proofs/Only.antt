@@ -1,5 +1,5 @@
 -- A refusal blames one part, and no other meets the law. Assumes nothing.
-use Rattle.std.proofs.Common.{◌≡◌, ℕ, ◌+◌, ◌*◌, ◌/◌, ◌%◌, inl, inr, arith}
+use Rattle.std.proofs.Common.{ℕ, ◌+◌, ◌*◌, ◌/◌, ◌%◌, inl, inr, arith}
 use Rattle.reports.proofs.Feeds.{one_start, one_end, line_or_none}
 use Rattle.reports.specs.Excerpts.{Slice, IsPart, IsCut, IsBlamed, SamePart}
 use Rattle.reports.specs.declared.excerpts.Blame.{Blame}

@@ -5,7 +5,6 @@ use Rattle.rules.specs.declared.fault.DocketFault.{DocketFault}
 use Rattle.rules.specs.declared.fault.DocketFault.TheVariants as docket
 use Rattle.papers.specs.declared.fault.BlockFault.{BlockFault}
 use Rattle.papers.specs.declared.fault.BlockFault.TheVariants as block
-use Rattle.papers.specs.declared.fault.PaperFault.{PaperFault}
 use Rattle.papers.specs.declared.fault.PaperFault.TheVariants as paper
 use Rattle.setgrammar.specs.declared.fault.TextFault.{TextFault}
 use Rattle.setgrammar.specs.declared.fault.TextFault.TheVariants as text
@@ -55,8 +54,8 @@ Slice = Bor (List ℕ)
 
 -- r is bytes s to e - 1 of the slice w, and stands where they do
 pub record IsPart (w : Slice) (s e : ℕ) (r : Slice) : Type 0 where
-  pub memory : r.ptr.0 ≡ w.ptr.0
-  pub place : r.ptr.1 ≡ w.ptr.1 + s
+  pub memory : r.ref_ptr.0 ≡ w.ref_ptr.0
+  pub place : r.ref_ptr.1 ≡ w.ref_ptr.1 + s
   pub bytes : r.now ≡ slice_range w.now s e
 
 -- r is empty, at the start of the slice w
@@ -110,8 +109,8 @@ Excerpted text paper refusal r = IsBlamed text paper (blame_of refusal) r
 
 -- the same bytes at one place
 pub record SamePart (q r : Slice) : Type 0 where
-  pub memory : q.ptr.0 ≡ r.ptr.0
-  pub place : q.ptr.1 ≡ r.ptr.1
+  pub memory : q.ref_ptr.0 ≡ r.ref_ptr.0
+  pub place : q.ref_ptr.1 ≡ r.ref_ptr.1
   pub bytes : q.now ≡ r.now
 
 -- nothing but r is what the refusal blames: no part that is longer or shorter, or starts elsewhere

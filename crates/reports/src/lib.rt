@@ -1,4 +1,6 @@
 // What judge says: a line for each refusal and for each paper, and the part that a refusal blames.
+#![tactic(auto)]
+
 mod excerpts;
 mod lines;
 

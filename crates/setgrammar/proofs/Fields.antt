@@ -2,7 +2,7 @@
 use Rattle.std.proofs.Common.{◌≡◌, ℕ, ◌+◌, ◌<◌, ◌≤◌, List, [], ◌∷◌, ◌++◌, length, Ok, Err, decimal, refl, ap, inl, inr, arith}
 use Rattle.std.proofs.lemmas.List.{append_assoc, append-nil, length-append}
 use Rattle.std.proofs.lemmas.Bool.{cases_eq, cases_lt, ne_eqb, eq-eqb}
-use Rattle.std.specs.List.{AllByRecursion as All}
+use Rattle.std.specs.List.{AllByRecursion}
 use Rattle.setgrammar.proofs.Fronts.{Stops, same_number, front_number}
 use Rattle.setgrammar.proofs.Numbers as numbers
 use Rattle.setgrammar.proofs.Numbers.{place, along, number_cases, number_taken, digit_first}
@@ -41,7 +41,7 @@ Shaped (r ∷ rs) (n ∷ ns) = (n ≤ 999) × Shaped rs ns
 
 -- ranges from 0 or 1 to at most 999
 abbrev pub Sane : List (ℕ × ℕ) → Type 0
-Sane ranges = All (λ r. (r.0 ≤ 1) × (r.0 ≤ r.1) × (r.1 ≤ 999)) ranges
+Sane ranges = AllByRecursion (λ r. (r.0 ≤ 1) × (r.0 ≤ r.1) × (r.1 ≤ 999)) ranges
 
 lows : List (ℕ × ℕ) → List ℕ
 lows [] = []

@@ -2,7 +2,7 @@
 use Rattle.std.proofs.Common.{◌≡◌, ℕ, zero, suc, ◌+◌, ◌<◌, ◌≤◌, List, [], ◌∷◌, ◌++◌, length, Ok, Result, sym, refl, ap, ◌∙◌, subst, inl, inr, arith}
 use Rattle.std.proofs.lemmas.List.{append-nil, append_assoc, length-append, flat_map_more}
 use Rattle.std.proofs.lemmas.Bool.{cases_lt, le-leb, lt-leb}
-use Rattle.std.specs.List.{flat_map, AllByRecursion as All}
+use Rattle.std.specs.List.{flat_map, AllByRecursion}
 use Rattle.bottoms.specs.declared.tile.Tile.{Tile}
 use Rattle.setgrammar.proofs.Breaks.{Broken, Breaks}
 use Rattle.setgrammar.proofs.LineLaw.{below, taken, broken, line_cases, quiet_begins}
@@ -102,11 +102,11 @@ module _ (bs : List ℕ) (old : List Tile) (fits : length bs ≤ 65535) where
       ]
 
 -- what holds of all holds of those in the middle
-all_front : (P : Line → Type 0) (xs ys : List Line) → All P (xs ++ ys) → All P xs
+all_front : (P : Line → Type 0) (xs ys : List Line) → AllByRecursion P (xs ++ ys) → AllByRecursion P xs
 all_front P [] ys all = tt
 all_front P (x ∷ xs) ys all = (all.0, all_front P xs ys all.1)
 
-all_at : (P : Line → Type 0) (xs : List Line) (x : Line) (ys : List Line) → All P (xs ++ x ∷ ys) → P x
+all_at : (P : Line → Type 0) (xs : List Line) (x : Line) (ys : List Line) → AllByRecursion P (xs ++ x ∷ ys) → P x
 all_at P [] x ys all = all.0
 all_at P (y ∷ xs) x ys all = all_at P xs x ys all.1
 

@@ -1,6 +1,6 @@
 -- The set text as a grammar: its lines as bytes, and the turns in which they stand. Assumes nothing.
 use Rattle.std.specs.Prelude.{◌≡◌, ℕ, ◌<◌, ◌≤◌, ◌⊎◌, List, [], ◌∷◌, ◌++◌, map, length, drop, decimal, ◌≢◌}
-use Rattle.std.specs.List.{AllByRecursion as All}
+use Rattle.std.specs.List.{AllByRecursion}
 use Rattle.bottoms.specs.declared.tile.Tile.{Tile}
 use Rattle.setgrammar.specs.declared.set.SetText.{SetText}
 
@@ -31,7 +31,7 @@ written (tile t) = 116 ∷ fields (edges t)
 
 -- a note holds no line feed
 abbrev pub NoFeed : List ℕ → Type 0
-NoFeed bs = All (λ b. b ≢ 10) bs
+NoFeed bs = AllByRecursion (λ b. b ≢ 10) bs
 
 -- a line of the right form, whose numbers have at most three digits
 abbrev pub Formed : Line → Type 0
@@ -39,7 +39,7 @@ Formed blank = Unit {0}
 Formed (note bs) = NoFeed bs
 Formed (pile n) = n ≤ 999
 Formed (row n) = n ≤ 999
-Formed (tile t) = All (λ n. n ≤ 999) (edges t)
+Formed (tile t) = AllByRecursion (λ n. n ≤ 999) (edges t)
 
 -- and each in its range
 abbrev pub Good : Line → Type 0
@@ -47,7 +47,7 @@ Good blank = Unit {0}
 Good (note bs) = NoFeed bs
 Good (pile n) = (1 ≤ n) × (n ≤ 6)
 Good (row n) = (1 ≤ n) × (n ≤ 8)
-Good (tile t) = All (λ n. n ≤ 255) (edges t)
+Good (tile t) = AllByRecursion (λ n. n ≤ 255) (edges t)
 
 -- the lines that say something
 abbrev pub spoken : List Line → List Line
@@ -85,7 +85,7 @@ Says ls set =
 
 -- lines with which a set text may begin, where the caller's list has this room
 pub record Begins (room : ℕ) (ls : List Line) : Type 0 where
-  pub good : All Good ls
+  pub good : AllByRecursion Good ls
   pub turn : InTurn ls
   pub within : length (tiles_in ls) ≤ room
   pub few : length (tiles_in ls) ≤ 1024
