@@ -1,4 +1,6 @@
 // cases: judges every case of cases.bin, made by the second program, and prints what judge would print of each.
+#![tactic(auto)]
+
 mod cursor;
 mod judging;
 

@@ -1,4 +1,6 @@
 // judge: reads set.txt and paper1.bin to paper9.bin in the folder that it is run in, files the papers in one docket, and prints a line for each.
+#![tactic(auto)]
+
 mod files;
 mod filing;
 

@@ -12,7 +12,7 @@ fn shows_the_line(rt: HostRuntime) {
     let refusal = Refusal::Set(TextFault::Range(at));
     assert_eq!(rt;
         excerpt(b"p 1\nt 0 0 0 256\n", &[], refusal),
-        b"t 0 0 0 256"
+        b"t 0 0 0 256".as_slice()
     );
 }
 
@@ -21,8 +21,8 @@ fn shows_the_number(rt: HostRuntime) {
     let mut paper = [0; 1024];
     paper[516] = 7;
     let refusal = Refusal::Paper(DocketFault::NoEdge(126));
-    assert_eq!(rt; excerpt(&[], &paper, refusal), &[7, 0, 0, 0]);
-    assert_eq!(rt; excerpt(&[], &paper[0..512], refusal), &[]);
+    assert_eq!(rt; excerpt(&[], &paper, refusal), [7, 0, 0, 0].as_slice());
+    assert_eq!(rt; excerpt(&[], &paper[0..512], refusal), [].as_slice());
 }
 
 fn tile(west: u8, east: u8) -> Tile {

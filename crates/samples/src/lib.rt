@@ -1,4 +1,6 @@
 // Worked samples: as one theorem, and as tests through the library.
+#![tactic(auto)]
+
 mod samples;
 
 pub use samples::samples_stand;

@@ -1,4 +1,6 @@
 // slots: prints the counts and the edges of every catalogue row, of a small set, and of layers on it.
+#![tactic(auto)]
+
 use anyhow::anyhow;
 use bottoms::{CatalogueTransducer, ListTransducer, Tile};
 use transducers::{Stack, Transducer, Turn};
