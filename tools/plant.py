@@ -9,7 +9,7 @@ Usage: tools/plant.py [CRATE ...] [--only WORD] [--docs] [--edits]
         file: the source file, from the crate's folder
         old: the text to replace, which stands once in that file
         new: the text to put there
-    Run `rt check` first: each body is checked over what that has proved, which is quick and no verdict.
+    Run `rt all check` first: each body is checked over what that has proved, which is quick and no verdict.
     --only WORD  only the entries that have WORD in their function or in what is wrong
     --docs       write the results of these crates to docs/planted/CRATE.md
     --edits      try nothing: write crates/CRATE/must-fail/LABEL.edit for each body that is kept
@@ -23,23 +23,8 @@ import shutil
 import subprocess
 import sys
 import tempfile
-from concurrent.futures import ThreadPoolExecutor
 
 ROOT = os.path.dirname(os.path.dirname(os.path.abspath(__file__)))
-HOME = os.path.dirname(os.path.dirname(os.path.realpath(shutil.which("rt"))))
-TARGET = os.path.join(ROOT, "target")
-JOBS = int(os.environ.get("RT_JOBS", "2"))
-
-
-def crates():
-    """The crates of crates.txt, each with the crates that it stands on."""
-    found = {}
-    for line in open(os.path.join(ROOT, "crates.txt")):
-        line = line.split("#")[0]
-        if ":" in line:
-            name, deps = line.split(":")
-            found[name.strip()] = deps.split()
-    return found
 
 
 def entries(crate):
@@ -54,48 +39,38 @@ def entries(crate):
     return found
 
 
-def command(crate, folder, kept):
-    words = [os.path.join(HOME, "bin", "rattle"), "check", "--crate-name", crate, os.path.join(folder, "src", "lib.rt")]
-    words += ["--extern", "std=" + os.path.join(HOME, "rlib", "std.rlib")]
-    for dep in crates()[crate]:
-        words += ["--extern", dep + "=" + os.path.join(TARGET, "rlib", dep + ".rlib")]
-    for place in (TARGET, HOME):
-        words += ["-L", "dependency=" + os.path.join(place, "rlib")]
-    words += ["--antt-project", os.path.join(HOME, "logic", "antt-project.json")]
-    return words + ["--logic-built", os.path.join(HOME, "logic-built"), "--incremental", kept]
+def edit(entry):
+    return "file: %s\nold: %s\nnew: %s\n" % (entry["file"], entry["old"], entry["new"])
 
 
-def verdict(said, folder):
-    """What the prover's words come to: a word, and where it first fails."""
-    if re.search(r"(?m)^logic=proved", said):
+def verdict(said, label):
+    """What the prover's words on an edit come to: a word, and where it first fails."""
+    found = re.search(r"must-fail \S*/%s\.edit: (.*)" % label, said)
+    words = found.group(1) if found else "nothing was said of it: " + said[-160:]
+    if words.startswith("NOT REFUSED"):
         return "PROVED", ""
-    if not re.search(r"(?m)^logic=not-proved", said):
-        found = re.search(r"(?m)^\S+: error.*", said)
-        return "BROKEN", found.group(0).replace(folder + "/", "")[:160] if found else said[-160:]
-    first = re.search(r"(?m)^(\S+): error", said)
-    if first:
-        return "UNFIT", first.group(1).replace(folder + "/", "")
-    fact = re.search(r"(?m)^note: (\S+?):\d+:\d+: (.*)", said)
-    function = re.search(r"(?m)^fn \w+::(\S+): no proof: .*?`(search|grind)` does not close (.*)", said)
-    where = function.group(1) if function else fact.group(1).replace(folder + "/", "") if fact else "?"
-    return "REFUSED", where + ": " + (function.group(3) if function else fact.group(2) if fact else "?")
+    if not words.startswith("refused"):
+        return "BROKEN", words[:160]
+    words = words.removeprefix("refused, as it must be")
+    if words.startswith(" (") or re.match(r": (\./)?proofs/", words):
+        return "UNFIT", words.lstrip(": ")[:160]
+    goal = re.match(r": note: (\S+?):\d+:\d+: .*?\(`([^`]*)`\)", words)
+    return "REFUSED", ": ".join(goal.groups()) if goal else words.lstrip(": ")
 
 
-def plant(crate, entry):
+def plant(crate, todo):
+    """Tries the entries of a crate as must-fail edits, in a copy of the checkout."""
     folder = tempfile.mkdtemp(prefix="planted-")
     try:
-        for part in ("src", "specs", "proofs"):
-            if os.path.isdir(os.path.join(ROOT, "crates", crate, part)):
-                shutil.copytree(os.path.join(ROOT, "crates", crate, part), os.path.join(folder, part))
-        path = os.path.join(folder, entry["file"])
-        text = open(path).read()
-        if text.count(entry["old"]) != 1:
-            return "BROKEN", "the old text stands %d times in the file" % text.count(entry["old"])
-        open(path, "w").write(text.replace(entry["old"], entry["new"]))
-        kept = os.path.join(folder, "kept")
-        shutil.copytree(os.path.join(TARGET, "inc", crate), kept)
-        ran = subprocess.run(command(crate, folder, kept), stdout=subprocess.PIPE, stderr=subprocess.STDOUT, text=True)
-        return verdict(ran.stdout, folder)
+        shutil.copy(os.path.join(ROOT, "crates.txt"), folder)
+        shutil.copytree(os.path.join(ROOT, "crates"), os.path.join(folder, "crates"), ignore=shutil.ignore_patterns("out", "must-fail"))
+        edits = os.path.join(folder, "crates", crate, "must-fail")
+        os.makedirs(edits)
+        for k, entry in enumerate(todo):
+            with open(os.path.join(edits, "plant%d.edit" % k), "w") as f:
+                f.write(edit(entry))
+        ran = subprocess.run(["rt", "must-fail", crate], cwd=folder, stdout=subprocess.PIPE, stderr=subprocess.STDOUT, text=True)
+        return [(entry, verdict(ran.stdout, "plant%d" % k)) for k, entry in enumerate(todo)]
     finally:
         shutil.rmtree(folder)
 
@@ -118,10 +93,13 @@ def write_edits(crate):
             path = os.path.join(folder, entry["keep"] + ".edit")
             if os.path.exists(path):
                 sys.exit("two edits of %s have the name %s" % (crate, entry["keep"]))
-            open(path, "w").write("file: %s\nold: %s\nnew: %s\n" % (entry["file"], entry["old"], entry["new"]))
+            open(path, "w").write(edit(entry))
 
 
 def main(words):
+    if "--help" in words:
+        print(__doc__.strip())
+        return
     only = words[words.index("--only") + 1] if "--only" in words else ""
     chosen = [w for w in words if not w.startswith("--") and w != only]
     chosen = chosen or sorted(f[:-4] for f in os.listdir(os.path.join(ROOT, "tools", "planted")))
@@ -132,12 +110,10 @@ def main(words):
     weak = 0
     for crate in chosen:
         todo = [e for e in entries(crate) if only in e["function"] + " " + e["wrong"]]
-        results = []
-        with ThreadPoolExecutor(JOBS) as pool:
-            for entry, (word, where) in zip(todo, pool.map(lambda e: plant(crate, e), todo)):
-                print("%-8s %s: %s: %s   %s" % (word, crate, entry["function"], entry["wrong"], where), flush=True)
-                results.append((entry, (word, where)))
-                weak += word != "REFUSED"
+        results = plant(crate, todo)
+        for entry, (word, where) in results:
+            print("%-8s %s: %s: %s   %s" % (word, crate, entry["function"], entry["wrong"], where), flush=True)
+            weak += word != "REFUSED"
         if "--docs" in words:
             os.makedirs(os.path.join(ROOT, "docs", "planted"), exist_ok=True)
             open(os.path.join(ROOT, "docs", "planted", crate + ".md"), "w").write(table(crate, results))
