@@ -5,14 +5,14 @@ Usage: tools/plant.py [CRATE ...] [--only WORD] [--docs] [--edits]
     The wrong bodies stand in tools/planted/CRATE.txt, each in lines of this form and order:
         function: the function whose body is wrong
         wrong: what is wrong with it, in a few words
-        keep: (only where the gate is to try it too) a label, the name of the must-fail edit
+        keep: (only where it tells most) a label, the name of its must-fail edit, which the gate tries too once it is written
         file: the source file, from the crate's folder
         old: the text to replace, which stands once in that file
         new: the text to put there
     Run `rt all check` first: each body is checked over what that has proved, which is quick and no verdict.
     --only WORD  only the entries that have WORD in their function or in what is wrong
     --docs       write the results of these crates to docs/planted/CRATE.md
-    --edits      try nothing: write crates/CRATE/must-fail/LABEL.edit for each body that is kept
+    --edits      try nothing: write crates/CRATE/must-fail/LABEL.edit for each body that is kept and has none yet
 
 What it says of each: REFUSED with the fact that no longer holds; UNFIT where a proof file no longer fits the code, which shows
 little; PROVED where the contract is too weak; BROKEN where it does not compile.
@@ -52,8 +52,9 @@ def verdict(said, label):
     if not words.startswith("refused"):
         return "BROKEN", words[:160]
     words = words.removeprefix("refused, as it must be")
-    if words.startswith(" (") or re.match(r": (\./)?proofs/", words):
-        return "UNFIT", words.lstrip(": ")[:160]
+    proof = re.search(r"(proofs/\S+?):\d+:\d+: error: `([^`]*)`", words)
+    if words.startswith(" (") or proof:
+        return "UNFIT", ": ".join(proof.groups()) if proof else words.strip(" :")[:160]
     goal = re.match(r": note: (\S+?):\d+:\d+: .*?\(`([^`]*)`\)", words)
     return "REFUSED", ": ".join(goal.groups()) if goal else words.lstrip(": ")
 
@@ -85,15 +86,17 @@ def table(crate, tried):
 
 
 def write_edits(crate):
+    """Writes the edits that are kept and not there yet. It changes and removes none."""
     folder = os.path.join(ROOT, "crates", crate, "must-fail")
-    shutil.rmtree(folder, ignore_errors=True)
     for entry in entries(crate):
-        if "keep" in entry:
+        if "keep" not in entry:
+            continue
+        path = os.path.join(folder, entry["keep"] + ".edit")
+        if not os.path.exists(path):
             os.makedirs(folder, exist_ok=True)
-            path = os.path.join(folder, entry["keep"] + ".edit")
-            if os.path.exists(path):
-                sys.exit("two edits of %s have the name %s" % (crate, entry["keep"]))
             open(path, "w").write(edit(entry))
+        elif open(path).read() != edit(entry):
+            print("%s stands with another text" % path)
 
 
 def main(words):

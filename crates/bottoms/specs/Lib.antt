@@ -5,4 +5,4 @@ pub mod Multiplying
 pub mod Tiles
 pub mod Multipliers
 pub mod Greatest
-pub mod ListIsTransducerLemmas
+pub mod ListValid

@@ -80,11 +80,11 @@ pub record Upto (n : ℕ) (xs : List ℕ) : Type 0 where
   pub number : (k : ℕ) → k < n → slice_index xs k ≡ k
 
 -- a drain under way: the states kept so far, how many links that count each has, and the states that may have none
-pub record Draining (s : ℕ) (ls : List Link) (counts-yet : ℕ → Bool) (kept : List Bool) (counts doubted : List ℕ) : Type 0 where
+pub record Draining (s : ℕ) (ls : List Link) (counts_yet : ℕ → Bool) (kept : List Bool) (counts doubted : List ℕ) : Type 0 where
   pub kept_size : length kept ≡ s
   pub counts_size : length counts ≡ s
   pub doubted_within : (q : ℕ) → Among doubted q → q < s
-  pub counted : (q : ℕ) → q < s → slice_index counts q ≡ how_many (λ k. counts-yet k && leaves ls q k) (length ls)
+  pub counted : (q : ℕ) → q < s → slice_index counts q ≡ how_many (λ k. counts_yet k && leaves ls q k) (length ls)
   pub keeps_lasting : (S : States) → Lasting ls S → (q : ℕ) → S q ≡ true → listed kept q ≡ true
   pub doubts : (q : ℕ) → listed kept q ≡ true → slice_index counts q ≡ 0 → Among doubted q
 

@@ -13,7 +13,7 @@ abbrev pub ChainsOf : List Link → Chains → Type 0
 ChainsOf ls c = Chained (states_of c) ls (length ls) (vec_items c.last) (vec_items c.next)
 
 abbrev pub DrainOf : ℕ → List Link → (ℕ → Bool) → List ℕ → Drain → Type 0
-DrainOf s ls counts-yet doubted d = Draining s ls counts-yet (vec_items d.kept) (vec_items d.counts) doubted
+DrainOf s ls counts_yet doubted d = Draining s ls counts_yet (vec_items d.kept) (vec_items d.counts) doubted
 
 -- no state is being judged
 abbrev pub AtRest : ℕ → List Link → Drain → Type 0

@@ -1,10 +1,8 @@
 // Making a list transducer, and its questions.
-ghost use Rattle.std.specs.Prelude.{◌≡◌, ◌+◌, ◌<◌, ◌≤◌, length, refl};
+ghost use Rattle.std.specs.Prelude.{◌≡◌, ◌+◌, ◌<◌, ◌≤◌};
 ghost use Rattle.bottoms.specs.Made.{ListMade, tiles_of};
 ghost use Rattle.bottoms.specs.Tiles.{greatest, tile_state, tile_letter, list_meaning};
-ghost use Rattle.std.proofs.Common.{arith, rules};
-ghost use Rattle.std.proofs.lemmas.Bool.Decides.{nat_tests};
-ghost use Rattle.bottoms.specs.ListIsTransducerLemmas.{found_inside};
+ghost use Rattle.bottoms.specs.ListValid.{list_valid};
 
 use crate::fault::ListFault;
 use crate::list::ListTransducer;
@@ -72,17 +70,7 @@ impl ListTransducer {
 impl Transducer for ListTransducer {
     ghost meaning = { λ t. list_meaning (tiles_of t) };
 
-    ghost valid = { λ t.
-        record {
-          some_state = Prim.search rules;
-          few_states = Prim.search rules;
-          some_letter = Prim.search rules;
-          few_letters = Prim.search rules;
-          some_slot = Prim.search rules;
-          few_slots = Prim.search rules;
-          inside = λ i e is. found_inside t.tiles.items i e _ refl is;
-          beyond = λ i past. Prim.grind (arith, nat_tests);
-        } };
+    ghost valid = { list_valid };
 
     fn states(&self) -> u32 {
         self.states
