@@ -2,6 +2,7 @@
 use Rattle.std.specs.Prelude.{◌≡◌, ℕ, ◌+◌, ◌-◌, ◌*◌, ◌<◌, ◌≤◌, Bool, true, false, ◌≢◌, ◌⊎◌, List, length, take, drop, Ok, Err, Result, ◌==◌, slice_index}
 use Rattle.papers.specs.Block.{kind_byte, count_byte, block_number}
 use Rattle.papers.specs.Bytes.{half, word, weighted}
+pub use Rattle.papers.specs.Kind.{kind_number}
 use Rattle.papers.specs.Paper.{blocks, block_at, due_kind, held}
 use Rattle.papers.specs.declared.block.Block.{Block}
 use Rattle.papers.specs.declared.fault.BlockFault.{BlockFault}
@@ -9,15 +10,7 @@ use Rattle.papers.specs.declared.fault.BlockFault.TheVariants as block
 use Rattle.papers.specs.declared.fault.PaperFault.{PaperFault}
 use Rattle.papers.specs.declared.fault.PaperFault.TheVariants as paper
 use Rattle.papers.specs.declared.kind.Kind.{Kind}
-use Rattle.papers.specs.declared.kind.Kind.TheVariants.{Strip, Ring, Ranking, Torus}
 use Rattle.papers.specs.declared.paper.Paper.{Paper}
-
--- the number that stands for a kind
-abbrev pub kind_number : Kind → ℕ
-kind_number Strip = 1
-kind_number Ring = 2
-kind_number Ranking = 3
-kind_number Torus = 4
 
 -- the bytes are the block at this place, of this kind, with these numbers
 pub record IsBlock (bs : List ℕ) (place : ℕ) (kind : Kind) (xs : List ℕ) : Type 0 where

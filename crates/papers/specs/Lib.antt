@@ -1,3 +1,4 @@
+pub mod Kind
 pub mod First
 pub mod Faults
 pub mod Bytes

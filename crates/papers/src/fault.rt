@@ -33,11 +33,11 @@ impl BlockFault {
     {
         match self {
             BlockFault::Length => 0,
-            BlockFault::Check(block) => block,
-            BlockFault::Place(block) => block,
-            BlockFault::Kind(block) => block,
-            BlockFault::Count(block) => block,
-            BlockFault::Padding(block) => block,
+            BlockFault::Check(block)
+            | BlockFault::Place(block)
+            | BlockFault::Kind(block)
+            | BlockFault::Count(block)
+            | BlockFault::Padding(block) => block,
         }
     }
 }

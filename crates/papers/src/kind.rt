@@ -1,4 +1,6 @@
 // What a paper claims of a transducer.
+use std::error::Error;
+use std::fmt;
 
 // A strip is a walk, a ring a closed walk, a ranking a number for each state that falls along every edge, a torus a periodic tiling.
 #[derive(Clone, Copy, PartialEq, Eq, Debug)]
@@ -8,3 +10,33 @@ pub enum Kind {
     Ranking = 3,
     Torus = 4,
 }
+
+// A number that no kind has.
+#[derive(Clone, Copy, PartialEq, Eq, Debug)]
+pub struct UnknownKind(pub u8);
+
+impl TryFrom<u8> for Kind {
+    type Error = UnknownKind;
+
+    ghost use Rattle.papers.specs.Kind.{DecodesKind};
+
+    ghost try_from_gives = { DecodesKind };
+
+    fn try_from(number: u8) -> Result<Kind, UnknownKind> {
+        match number {
+            1 => Ok(Kind::Strip),
+            2 => Ok(Kind::Ring),
+            3 => Ok(Kind::Ranking),
+            4 => Ok(Kind::Torus),
+            _ => Err(UnknownKind(number)),
+        }
+    }
+}
+
+impl fmt::Display for UnknownKind {
+    fn fmt<W: fmt::Write>(&self, f: &mut fmt::Formatter<W>) -> fmt::Result {
+        write!(f, "no kind has number {}", self.0)
+    }
+}
+
+impl Error for UnknownKind {}

@@ -9,5 +9,5 @@ mod words;
 
 pub use block::{Block, read_block};
 pub use fault::{BlockFault, PaperFault};
-pub use kind::Kind;
+pub use kind::{Kind, UnknownKind};
 pub use paper::{Paper, read_paper};
