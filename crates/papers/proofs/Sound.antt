@@ -9,7 +9,7 @@ use Rattle.papers.proofs.Fields.{kind_small, kind_again, number_of_kind}
 use Rattle.papers.proofs.Order.{passed, answer_of}
 use Rattle.papers.specs.Block.{block_verdict, block_of, kind_of, kind_byte, count_byte, block_number}
 use Rattle.papers.specs.First.{answered}
-use Rattle.papers.specs.Form.{IsDueBlock, CountFits, KindFits, BlockLaw}
+use Rattle.papers.specs.Form.{IsDueBlock, CountFits, KindFits, BlockLaw, kind_number}
 use Rattle.papers.specs.declared.block.Block.{Block}
 use Rattle.papers.specs.declared.kind.Kind.{Kind}
 
@@ -43,6 +43,12 @@ module _ (bs : List ℕ) (place due : ℕ) (last : Bool) where
         kind_due = subst (λ k. (due ≡ 0) ⊎ (k ≡ due)) (sym number) p.kind_fits.2;
         count_due = subst (CountFits last) (sym size) p.count_fits;
       }
+
+  pub block_from_passes : Passes bs place due last → (b : Block) → kind_number b.kind ≡ kind_byte bs → b.count ≡ count_byte bs → BlockLaw bs place due last (Ok b)
+  block_from_passes p b marked counted =
+      let is = due_from_passes p in
+      let same : kind_of (kind_byte bs) ≡ b.kind = sym (ap kind_of marked) ∙ kind_again b.kind in
+      (held_numbers bs, subst (λ k. IsDueBlock bs place due last k (held_numbers bs)) same is, counted ∙ is.block.counted)
 
   pub passes_from_due : (kind : Kind) (xs : List ℕ) → IsDueBlock bs place due last kind xs → Passes bs place due last
   passes_from_due kind xs is =

@@ -1,5 +1,5 @@
 -- The form of a block and of a paper, as relations between bytes and what they say, and what each fault says. Assumes nothing.
-use Rattle.std.specs.Prelude.{◌≡◌, ℕ, ◌+◌, ◌-◌, ◌*◌, ◌<◌, ◌≤◌, Bool, true, false, ◌≢◌, ◌⊎◌, List, length, take, drop, Ok, Err, Result, ◌==◌, slice_index}
+use Rattle.std.specs.Prelude.{◌≡◌, ℕ, ◌+◌, ◌-◌, ◌*◌, ◌<◌, ◌≤◌, Bool, true, false, ◌≢◌, ◌⊎◌, List, length, take, drop, Ok, Err, Result, ◌==◌, slice_index, slice_index_or}
 use Rattle.papers.specs.Block.{kind_byte, count_byte, block_number}
 use Rattle.papers.specs.Bytes.{half, word, weighted}
 pub use Rattle.papers.specs.Kind.{kind_number}
@@ -34,6 +34,13 @@ pub record WholeBlocks (bs : List ℕ) : Type 0 where
   pub some : 1 ≤ blocks bs
   pub most : blocks bs ≤ 64
 
+-- the bytes are 1 to 64 whole blocks: a first one, and the others
+pub record AreBlocks (bs start : List ℕ) (others : List (List ℕ)) : Type 0 where
+  pub whole : WholeBlocks bs
+  pub first : start ≡ block_at bs 0
+  pub each : (b : ℕ) (d : List ℕ) → b < length others → slice_index_or others b d ≡ block_at bs (b + 1)
+  pub many : length others + 1 ≡ blocks bs
+
 -- the bytes are the paper of this kind with these numbers
 pub record IsPaper (bs : List ℕ) (kind : Kind) (xs : List ℕ) : Type 0 where
   pub whole : WholeBlocks bs
@@ -45,6 +52,11 @@ pub record IsPaper (bs : List ℕ) (kind : Kind) (xs : List ℕ) : Type 0 where
 -- a kind byte that fits its due kind (0: any)
 abbrev pub KindFits : ℕ → ℕ → Type 0
 KindFits due k = (1 ≤ k) × (k ≤ 4) × ((due ≡ 0) ⊎ (k ≡ due))
+
+-- the kind byte stands for this kind, and fits its due kind
+pub record HasDueKind (bs : List ℕ) (due : ℕ) (kind : Kind) : Type 0 where
+  pub marked : kind_number kind ≡ kind_byte bs
+  pub fits : KindFits due (kind_byte bs)
 
 -- a count that fits: 1 to 126 in the last block, else 126
 abbrev pub CountFits : Bool → ℕ → Type 0

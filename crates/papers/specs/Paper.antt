@@ -1,7 +1,8 @@
 -- A paper: 1 to 64 blocks, all of one kind, whose numbers run on from block to block. Assumes nothing.
-use Rattle.std.specs.Prelude.{ℕ, ◌+◌, ◌-◌, ◌*◌, ◌/◌, ◌%◌, Bool, cond, ◌&&◌, List, map, length, take, drop, Ok, Err, Result, ◌==◌, nat_le, slice_index}
+use Rattle.std.specs.Prelude.{ℕ, ◌+◌, ◌-◌, ◌*◌, ◌/◌, ◌%◌, Bool, cond, ◌&&◌, List, map, length, Ok, Err, Result, ◌==◌, nat_le, slice_index}
 use Rattle.std.specs.List.{range_with_len}
 use Rattle.papers.specs.Block.{block_verdict, kind_byte, kind_of}
+pub use Rattle.papers.specs.Blocks.{blocks, block_at}
 use Rattle.papers.specs.Bytes.{word}
 use Rattle.papers.specs.First.{Verdict, must, ◌then◌, first, answered}
 use Rattle.papers.specs.declared.fault.BlockFault.{BlockFault}
@@ -9,14 +10,6 @@ use Rattle.papers.specs.declared.fault.PaperFault.{PaperFault}
 use Rattle.papers.specs.declared.fault.PaperFault.TheVariants as fault
 use Rattle.papers.specs.declared.kind.Kind.{Kind}
 use Rattle.papers.specs.declared.paper.Paper.{Paper}
-
--- how many blocks the bytes are
-abbrev pub blocks : List ℕ → ℕ
-blocks bs = length bs / 512
-
--- the bytes of block b
-abbrev pub block_at : List ℕ → ℕ → List ℕ
-block_at bs b = take 512 (drop (512 * b) bs)
 
 -- the kind that block b has to have: any in block 0, and then that of block 0
 abbrev pub due_kind : List ℕ → ℕ → ℕ

@@ -33,7 +33,22 @@ impl TryFrom<u8> for Kind {
     }
 }
 
+impl From<Kind> for u8 {
+    ghost use Rattle.std.specs.Prelude.{◌≡◌};
+    ghost use Rattle.papers.specs.Kind.{kind_number};
+
+    ghost from_gives = { λ kind number. number ≡ kind_number kind };
+
+    fn from(kind: Kind) -> u8 {
+        kind as u8
+    }
+}
+
 impl fmt::Display for UnknownKind {
+    ghost use Rattle.std.specs.Prelude.{◌++◌, Some, codes, decimal};
+
+    ghost output = { λ e. Some (codes "no kind has number " ++ decimal e.0) };
+
     fn fmt<W: fmt::Write>(&self, f: &mut fmt::Formatter<W>) -> fmt::Result {
         write!(f, "no kind has number {}", self.0)
     }

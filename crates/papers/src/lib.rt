@@ -2,12 +2,12 @@
 #![tactic(auto)]
 
 mod block;
+mod bytes;
 mod fault;
 mod kind;
 mod paper;
-mod words;
 
-pub use block::{Block, read_block};
+pub use block::{BLOCK_BYTES, BLOCK_NUMBERS, Block, read_block};
 pub use fault::{BlockFault, PaperFault};
 pub use kind::{Kind, UnknownKind};
 pub use paper::{Paper, read_paper};

@@ -1,6 +1,0 @@
-use Rattle.std.proofs.Common.{◌≡◌, ◌*◌, ◌≤◌}
-use Rattle.papers.specs.Bytes.{weighted}
-use Rattle.papers.proofs.words.check_of.Given as goal
-
-abbrev pub invariant-loop-i : goal.invariant-loop-i
-invariant-loop-i l = (l.sum ≡ weighted l.bytes l.i) × (l.sum ≤ 129540 * l.i)
