@@ -15,7 +15,7 @@ decides_leb a b = (leb-true a b, le-leb a b)
 pub must_passes : {F P : Type 0} (b : Bool) (f : F) → Decides b P → (must b f ≡ Ok tt) ↔ P
 must_passes true f d = (λ e. d.0 refl, λ p. refl)
 must_passes false f d =
-    (λ e. let z : ◌≡◌ {A = ℕ} 0 1 = cc in absurd (omega arith), λ p. absurd (both_ways false refl (d.1 p)))
+    (λ e. absurd (cc), λ p. absurd (both_ways false refl (d.1 p)))
 
 pub then_passes : {F P Q : Type 0} (v w : Verdict F) → (v ≡ Ok tt) ↔ P → (w ≡ Ok tt) ↔ Q → (v then w ≡ Ok tt) ↔ (P × Q)
 then_passes v w p q =

@@ -113,7 +113,7 @@ sound_exactly bs b = (
 )
 
 of_block_fails : (v : Verdict BlockFault) (f : PaperFault) → of_block v ≡ Err f → (g : BlockFault) × (v ≡ Err g) × (f ≡ paper.Block g)
-of_block_fails (Ok u) f e = let z : ◌≡◌ {A = ℕ} 0 1 = cc in absurd (omega arith)
+of_block_fails (Ok u) f e = absurd (cc)
 of_block_fails (Err g) f e = (g, refl, cc)
 
 module _ (bs : List ℕ) where

@@ -7,7 +7,7 @@ use Rattle.papers.specs.First.{Verdict, ◌then◌, first}
 -- two tests in turn
 pub both_pass : {F : Type 0} (v w : Verdict F) → v then w ≡ Ok tt → (v ≡ Ok tt) × (w ≡ Ok tt)
 both_pass (Ok u) w e = (refl, e)
-both_pass (Err f) w e = let z : ◌≡◌ {A = ℕ} 0 1 = cc in absurd (omega arith)
+both_pass (Err f) w e = absurd (cc)
 
 pub pass_both : {F : Type 0} (v w : Verdict F) → v ≡ Ok tt → w ≡ Ok tt → v then w ≡ Ok tt
 pass_both v w p q = rw p q
@@ -17,7 +17,7 @@ one_fails (Ok u) w f e = inr (refl, e)
 one_fails (Err g) w f e = inl e
 
 pub passed_not_failed : {F : Type 0} (v : Verdict F) (f : F) → v ≡ Ok tt → v ≡ Err f → ⊥
-passed_not_failed v f p q = let z : ◌≡◌ {A = ℕ} 0 1 = cc in omega arith
+passed_not_failed v f p q = cc
 
 module _ {F : Type 0} (test : ℕ → Verdict F) where
   all_from_first : (n : ℕ) → first test n ≡ Ok tt → (i : ℕ) → i < n → test i ≡ Ok tt
@@ -42,7 +42,7 @@ module _ {F : Type 0} (test : ℕ → Verdict F) where
 
   found_in_first : (n : ℕ) (f : F) → first test n ≡ Err f → (i : ℕ) × (i < n) × (test i ≡ Err f) × ((j : ℕ) → j < i → test j ≡ Ok tt)
   unfolding first
-  found_in_first zero f e = let z : ◌≡◌ {A = ℕ} 0 1 = cc in absurd (omega arith)
+  found_in_first zero f e = absurd (cc)
   found_in_first (suc n) f e =
       elim (one_fails (first test n) (test n) f e) [
         | inl before ↦ let p = found_in_first n f before in (p.0, omega (arith, p.1), p.2, p.3)

@@ -33,15 +33,15 @@ module _ {F : Type 0} (test : ℕ → Verdict F) where
 -- what the answer says of the tests
 pub passed : {F X : Type 0} (v : Verdict F) (x y : X) → Ok y ≡ answered v x → v ≡ Ok tt
 passed (Ok u) x y e = refl
-passed (Err f) x y e = let z : ◌≡◌ {A = ℕ} 0 1 = cc in absurd (omega arith)
+passed (Err f) x y e = cc
 
 pub refused : {F X : Type 0} (v : Verdict F) (x : X) (f : F) → Err f ≡ answered v x → v ≡ Err f
-refused (Ok u) x f e = let z : ◌≡◌ {A = ℕ} 0 1 = cc in absurd (omega arith)
+refused (Ok u) x f e = cc
 refused (Err g) x f e = cc
 
 pub answer_of : {F X : Type 0} (v : Verdict F) (x y : X) → Ok y ≡ answered v x → y ≡ x
 answer_of (Ok u) x y e = cc
-answer_of (Err f) x y e = let z : ◌≡◌ {A = ℕ} 0 1 = cc in absurd (omega arith)
+answer_of (Err f) x y e = cc
 
 -- the exit by `?` of a function that answers a value
 pub answered_exit : {F X : Type 0} (v : Verdict F) (x : X) (r : Result X F) (f : F) → IsErrAnd r (λ e. e ≡ f) → v ≡ Err f → r ≡ answered v x

@@ -11,7 +11,7 @@ use Rattle.papers.specs.declared.fault.BlockFault.{BlockFault}
 pub of_block_passes : (v : Verdict BlockFault) → (of_block v ≡ Ok tt) ↔ (v ≡ Ok tt)
 of_block_passes (Ok u) = (λ e. refl, λ e. refl)
 of_block_passes (Err f) =
-    (λ e. let z : ◌≡◌ {A = ℕ} 0 1 = cc in absurd (omega arith), λ e. let z : ◌≡◌ {A = ℕ} 0 1 = cc in absurd (omega arith))
+    (λ e. absurd (cc), λ e. absurd (cc))
 
 pub decides_whole : (bs : List ℕ) → Decides (whole_blocks bs) (WholeBlocks bs)
 decides_whole bs =

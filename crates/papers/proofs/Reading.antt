@@ -1,5 +1,6 @@
 -- What the blocks that were read so far say of their paper. Assumes nothing.
-use Rattle.std.proofs.Common.{◌≡◌, ℕ, ◌+◌, ◌-◌, ◌*◌, ◌<◌, ◌≤◌, Bool, false, eqb, ◌↔◌, List, [], length, get_or, Ok, Err, Result, sym, refl, ap, ◌∙◌, subst, ap₂, inl, inr, arith, lit<}
+use Rattle.std.proofs.Common.{◌≡◌, ℕ, ◌+◌, ◌-◌, ◌*◌, ◌<◌, ◌≤◌, Bool, false, eqb, ◌⊎◌, ◌↔◌, List, [], ◌∷◌, length, get_or, drop, Ok, Err, Result, sym, refl, ap, ◌∙◌, subst, ap₂, add-zero, inl, inr, arith, lit<}
+use Rattle.std.proofs.lemmas.List.{length-drop, get_or-drop, drop-drop}
 use Rattle.std.proofs.lemmas.Bool.{cases_eq, eq-eqb, ne_eqb}
 use Rattle.papers.proofs.Fields.{byte_at, kind_of_first, kind_again}
 use Rattle.papers.proofs.PaperTests.{paper_exactly}
@@ -77,39 +78,73 @@ module _ (bs : List ℕ) where
       let same_count : count ≡ paper_count bs = omega (arith, read.counted, byte_at bs b 3 (512 * (blocks bs - 1) + 3) (lit< tt) (omega arith)) in
       ap₂ (λ k n. Ok (saying k n)) same_kind same_count ∙ sym (ap (λ v. answered v (saying (kind_of (kind_byte bs)) (paper_count bs))) pass)
 
+-- where the reading stands in the other blocks: the next place, the blocks that are left, and the block that was read last
+pub record Stands (bs : List ℕ) (others : List (List ℕ)) (place count : ℕ) (left : List (List ℕ)) : Type 0 where
+  pub last : ℕ
+  pub next : place ≡ last + 1
+  pub within : last ≤ length others
+  pub rest : left ≡ drop last others
+  pub read : AreRead bs last count
+
+same_law : (x y : List ℕ) (p q d e : ℕ) (l m : Bool) (r : Result Block BlockFault) → x ≡ y → p ≡ q → d ≡ e → l ≡ m → BlockLaw x p d l r → BlockLaw y q e m r
+same_law x y p q d e l m r at place due last law = rw (at, place, due, last) at law
+
 -- what the block reader answered of the first block, and of each of the others
-module _ (bs start : List ℕ) (others : List (List ℕ)) (are : AreBlocks bs start others) where
-  first_law : (last : Bool) (r : Result Block BlockFault) → last ≡ eqb (length others) 0 → BlockLaw start 0 0 last r → BlockLaw (block_at bs 0) 0 0 (eqb 1 (blocks bs)) r
-  first_law last r e law =
-      let only : last ≡ eqb 1 (blocks bs) = e ∙ same_test (length others) 0 1 (blocks bs) (λ is. omega (arith, are.many), λ is. omega (arith, are.many)) in
-      subst (λ l. BlockLaw (block_at bs 0) 0 0 l r) only (subst (λ b. BlockLaw b 0 0 last r) are.first law)
+module _ (bs start : List ℕ) (others : List (List ℕ)) (are : AreBlocks bs start others) (only : Bool) (is_only : only ≡ eqb (length others) 0) where
+  first_law : (r : Result Block BlockFault) → BlockLaw start 0 0 only r → BlockLaw (block_at bs 0) 0 0 (eqb 1 (blocks bs)) r
+  first_law r law =
+      let last : only ≡ eqb 1 (blocks bs) = is_only ∙ same_test (length others) 0 1 (blocks bs) (λ is. omega (arith, are.many), λ is. omega (arith, are.many)) in
+      same_law start (block_at bs 0) 0 0 0 0 only (eqb 1 (blocks bs)) r are.first refl refl last law
 
-  next_law : (b due : ℕ) (r : Result Block BlockFault) → b < length others → due ≡ kind_byte bs → BlockLaw (get_or others b []) (b + 1) due (eqb (b + 1) (length others)) r → BlockLaw (block_at bs (b + 1)) (b + 1) (kind_byte bs) (eqb (b + 1 + 1) (blocks bs)) r
-  next_law b due r h e law =
-      let there : BlockLaw (block_at bs (b + 1)) (b + 1) due (eqb (b + 1) (length others)) r = subst (λ x. BlockLaw x (b + 1) due (eqb (b + 1) (length others)) r) (are.each b [] h) law in
-      let same : BlockLaw (block_at bs (b + 1)) (b + 1) (kind_byte bs) (eqb (b + 1) (length others)) r = subst (λ d. BlockLaw (block_at bs (b + 1)) (b + 1) d (eqb (b + 1) (length others)) r) e there in
-      subst (λ l. BlockLaw (block_at bs (b + 1)) (b + 1) (kind_byte bs) l r) (same_test (b + 1) (length others) (b + 1 + 1) (blocks bs) (λ is. omega (arith, are.many), λ is. omega (arith, are.many))) same
+  pub start_fails : (f : BlockFault) → BlockLaw start 0 0 only (Err f) → PaperFaultLaw bs (paper.Block f)
+  start_fails f law = first_fault bs are.whole f (first_law (Err f) law)
 
-  module _ (only : Bool) (is_only : only ≡ eqb (length others) 0) where
-    pub start_fails : (f : BlockFault) → BlockLaw start 0 0 only (Err f) → PaperFaultLaw bs (paper.Block f)
-    start_fails f law = first_fault bs are.whole f (first_law only (Err f) is_only law)
+  module _ (block : Block) (law : BlockLaw start 0 0 only (Ok block)) where
+    pub start_read : Stands bs others 1 block.count others
+    start_read = record { last = 0; next = refl; within = omega arith; rest = refl; read = read_first bs block (first_law (Ok block) law) }
 
-    module _ (block : Block) (law : BlockLaw start 0 0 only (Ok block)) where
-      pub start_read : AreRead bs 0 block.count
-      start_read = read_first bs block (first_law only (Ok block) is_only law)
+    kind_read : kind_number block.kind ≡ kind_byte bs
+    kind_read = sym (first_law (Ok block) law).1.block.marked ∙ kind_of_first bs
 
-      kind_read : kind_number block.kind ≡ kind_byte bs
-      kind_read = sym (first_law only (Ok block) is_only law).1.block.marked ∙ kind_of_first bs
+    module _ (place count : ℕ) (left : List (List ℕ)) (stands : Stands bs others place count left) where
+      -- a block that is read next
+      module _ (x : List ℕ) (more : List (List ℕ)) (due : ℕ) (last : Bool) (at : left ≡ x ∷ more) (is_due : due ≡ kind_number block.kind) (is_last : last ≡ eqb place (length others)) where
+        inside : stands.last < length others
+        inside = omega (arith, length-drop stands.last others, ap length (sym stands.rest ∙ at))
 
-      module _ (b count : ℕ) (read : AreRead bs b count) where
-        module _ (due : ℕ) (is_due : due ≡ kind_number block.kind) (more : b < length others) where
-          pub next_fails : (f : BlockFault) → BlockLaw (get_or others b []) (b + 1) due (eqb (b + 1) (length others)) (Err f) → PaperFaultLaw bs (paper.Block f)
-          next_fails f law =
-              later_fault bs are.whole b count f read (omega (arith, are.many)) (next_law b due (Err f) more (is_due ∙ kind_read) law)
+        here : x ≡ block_at bs (stands.last + 1)
+        here =
+            sym (ap (λ bs. get_or bs 0 []) (sym stands.rest ∙ at)) ∙ get_or-drop stands.last others 0 [] ∙ ap (λ j. get_or others j []) (add-zero stands.last) ∙ are.each stands.last [] inside
 
-          pub next_read : (next : Block) → BlockLaw (get_or others b []) (b + 1) due (eqb (b + 1) (length others)) (Ok next) → AreRead bs (b + 1) (count + next.count)
-          next_read next law =
-              read_more bs b count next read (omega (arith, are.many)) (next_law b due (Ok next) more (is_due ∙ kind_read) law)
+        next_law : (r : Result Block BlockFault) → BlockLaw x place due last r → BlockLaw (block_at bs (stands.last + 1)) (stands.last + 1) (kind_byte bs) (eqb (stands.last + 1 + 1) (blocks bs)) r
+        next_law r law =
+            let b : ℕ = stands.last + 1 in
+            let ends : last ≡ eqb (b + 1) (blocks bs) = is_last ∙ same_test place (length others) (b + 1) (blocks bs) (λ is. omega (arith, are.many, stands.next), λ is. omega (arith, are.many, stands.next)) in
+            same_law x (block_at bs b) place b due (kind_byte bs) last (eqb (b + 1) (blocks bs)) r here stands.next (is_due ∙ kind_read) ends law
 
-        pub all_read : b ≡ length others → Ok (record { kind = block.kind; numbers = numbers bs count }) ≡ contents_of bs
-        all_read e = read_all bs are.whole b count block.kind read (omega (arith, are.many)) kind_read
+        pub next_fails : (f : BlockFault) → BlockLaw x place due last (Err f) → PaperFaultLaw bs (paper.Block f)
+        next_fails f law =
+            later_fault bs are.whole stands.last count f stands.read (omega (arith, are.many, inside)) (next_law (Err f) law)
+
+        pub next_read : (next : Block) → BlockLaw x place due last (Ok next) → Stands bs others (place + 1) (count + next.count) more
+        next_read next law = record {
+          last = stands.last + 1;
+          next = ap (λ n. n + 1) stands.next;
+          within = omega (arith, inside);
+          rest = sym (ap (drop 1) (sym stands.rest ∙ at)) ∙ drop-drop 1 stands.last others;
+          read = read_more bs stands.last count next stands.read (omega (arith, are.many, inside)) (next_law (Ok next) law);
+        }
+
+      -- the iterator has no place left, or no block
+      ended : (65535 - place ≡ 0) ⊎ (length left ≡ 0) → stands.last + 1 ≡ blocks bs
+      ended (inl over) = absurd (omega (arith, are.many, are.whole.most, stands.next, stands.within))
+      ended (inr none) = omega (arith, are.many, ap length stands.rest, length-drop stands.last others, stands.within)
+
+      pub count_small : (count + 255 < 65536) × (count ≤ 126 * blocks bs)
+      count_small =
+          let most = count_most bs stands.last count stands.read in
+          (omega (arith, are.many, are.whole.most, stands.within), omega (arith, are.many, stands.within))
+
+      pub all_read : (65535 - place ≡ 0) ⊎ (length left ≡ 0) → Ok (record { kind = block.kind; numbers = numbers bs count }) ≡ contents_of bs
+      all_read none =
+          read_all bs are.whole stands.last count block.kind stands.read (ended none) kind_read

@@ -31,6 +31,7 @@ fn count_fits(last: bool, count: u8) -> bool
 }
 
 // Reads one block at its due place, of its due kind (0: any), as the last of its paper or not.
+// The due kind is a number and not a `Kind`, as the format has it: one that no kind has is answered with a fault.
 pub fn read_block(bytes: &[u8], place: u16, kind: u8, last: bool) -> Result<Block, BlockFault>
     ensures answer { result ≡ block_of bytes.now place kind last }
     ensures law { BlockLaw bytes.now place kind last result }

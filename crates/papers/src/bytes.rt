@@ -9,6 +9,7 @@ use crate::block::{BLOCK_BYTES, BLOCK_NUMBERS};
 use crate::kind::Kind;
 use std::ops::Range;
 
+// The bytes of one block.
 #[derive(Clone, Copy)]
 pub(crate) struct BlockBytes<'a> {
     pub(crate) bytes: &'a [u8; BLOCK_BYTES],
@@ -21,9 +22,9 @@ impl BlockBytes<'_> {
         u16::from_le_bytes([self.bytes[0], self.bytes[1]])
     }
 
-    // The kind that it says, if that is the due one (0: any).
+    // The kind that it says, if that is the due one. The due kind is a number as the format has it, 0 for any.
     pub(crate) fn kind_due(&self, due: u8) -> Option<Kind>
-        ensures { MatchOption result (KindFits due (kind_byte self.now.bytes.now) → ⊥) (HasDueKind self.now.bytes.now due) }
+        ensures { MatchOption result (¬ KindFits due (kind_byte self.now.bytes.now)) (HasDueKind self.now.bytes.now due) }
     {
         Kind::try_from(self.bytes[2])
             .ok()
@@ -78,8 +79,8 @@ impl BlockBytes<'_> {
         ensures { result ≡ weighted self.now.bytes.now 508 }
     {
         let mut sum = 0;
-        for (i, &byte) in self.checked().iter().enumerate() {
-            sum += (i as u32 + 1) * u32::from(byte);
+        for (byte, weight) in self.checked().iter().zip(1..) {
+            sum += weight * u32::from(*byte);
         }
         sum
     }

@@ -43,6 +43,7 @@ impl BlockFault {
 }
 
 // The first fault of a paper: it is not 1 to 64 whole blocks, or the fault of one of its blocks.
+// An enum of its own and no `Option`, since each crate's fault is turned into the next one's by `From`.
 #[derive(Clone, Copy, PartialEq, Eq, Debug)]
 pub enum PaperFault {
     Length,

@@ -2,7 +2,8 @@
 use std::error::Error;
 use std::fmt;
 
-// A strip is a walk, a ring a closed walk, a ranking a number for each state that falls along every edge, a torus a periodic tiling.
+// A strip is a walk, a ring a closed walk, a ranking a number for each state that falls along every edge,
+// a torus a periodic tiling.
 #[derive(Clone, Copy, PartialEq, Eq, Debug)]
 pub enum Kind {
     Strip = 1,
@@ -40,6 +41,7 @@ impl From<Kind> for u8 {
     ghost from_gives = { λ kind number. number ≡ kind_number kind };
 
     fn from(kind: Kind) -> u8 {
+        // What a variant's number is, Rust says by `as` alone.
         kind as u8
     }
 }

@@ -10,7 +10,7 @@ mod read;
 
 pub use read::read_paper;
 
-// Its kind, its bytes, and how many numbers they hold.
+// Its kind, its bytes, and how many numbers they hold. The last block's bytes may hold zeros past the count.
 #[derive(Clone, Copy, PartialEq, Eq, Debug)]
 pub struct Paper<'a> {
     bytes: &'a [u8],
@@ -42,6 +42,7 @@ impl Paper<'_> {
         if place >= u32::from(self.count) {
             return 0;
         }
+        // There is no `From` of `u32` for `usize`.
         let place = place as usize;
         let (blocks, _) = self.bytes.as_chunks::<BLOCK_BYTES>();
         let block = BlockBytes {

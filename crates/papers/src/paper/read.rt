@@ -35,9 +35,9 @@ pub fn read_paper(bytes: &[u8]) -> Result<Paper<'_>, PaperFault>
     let (first, others) = split_blocks(bytes).ok_or(PaperFault::Length)?;
     let start = read_block(first, 0, 0, others.is_empty())?;
     let mut count = u16::from(start.count);
-    for (b, block) in others.iter().enumerate() {
-        let last = b + 1 == others.len();
-        let next = read_block(block, b as u16 + 1, start.kind.into(), last)?;
+    for (place, block) in (1u16..).zip(others) {
+        let last = usize::from(place) == others.len();
+        let next = read_block(block, place, start.kind.into(), last)?;
         count += u16::from(next.count);
     }
     Ok(Paper {

@@ -1,25 +1,40 @@
-use Rattle.std.proofs.Common.{◌≡◌, ℕ, ◌+◌, ◌*◌, ◌<◌, ◌≤◌, List, get_or, ◌∙◌, get_or-take, sym, refl, ap, add-one, arith}
-use Rattle.std.proofs.lemmas.Nat.{mul-le}
-use Rattle.papers.specs.Bytes.{weighted}
+use Rattle.std.proofs.Common.{◌≡◌, ◌<◌, ◌≤◌, ◌∷◌, ◌*◌, ap, inl, inr, length, length-take, arith, rules}
+use Rattle.papers.proofs.Weighing.{Weighed, none_weighed, term_small, sum_small, more_weighed, all_weighed}
 use Rattle.papers.proofs.bytes.BlockBytes.weighted_sum.Goals as goal
 
-weighted_more : (bs : List ℕ) (n b s : ℕ) → s ≡ weighted bs n → b ≡ get_or bs n 0 → s + (n + 1) * b ≡ weighted bs (n + 1)
-unfolding weighted
-weighted_more bs n b s sum here = rw (sum, here) (sym (ap (weighted bs) (add-one n)))
+pub loop-byte-init : goal.loop-byte-init
+loop-byte-init c =
+    let left : c.zip-byte-items.result.a.rest.now ≡ c.checked.result.now = search rules in
+    let weight : c.zip-byte-items.result.b.start ≡ 1 = search rules in
+    rw (c.into_iter-byte-iterator.ensures.into_iter_gives, left, weight, c.checked.ensures.value) (none_weighed _)
 
--- one byte adds at most 508 × 255
-bound : (c : goal.After-from) → (c.loop-i.i + 1) * c.from.result ≤ 508 * 255
-bound c = mul-le _ _ 508 255 (omega arith) (omega arith)
+-- the byte and its weight
+module _ (c : goal.After-from) where
+  size : 508 ≤ length c.args.self.now.bytes.now
+  size = omega (arith, ap length c.checked.ensures.value, length-take 508 c.args.self.now.bytes.now)
 
-pub loop-i-init : goal.loop-i-init
-unfolding weighted
-loop-i-init c = record { summed = refl; small = omega arith }
+  small : c.from.result < 256
+  small = omega arith
 
-pub overflow_add-sum-in-loop-i : goal.overflow_add-sum-in-loop-i
-overflow_add-sum-in-loop-i c = record { fits = omega (arith, bound c) }
+  at : c.loop-byte.byte-iterator.a.rest.now ≡ c.from.result ∷ c.next.new.self.a.rest.now
+  at = rw c.from.ensures c.in-Some.ensures.steps.0
 
-pub loop-i-preserved : goal.loop-i-preserved
-loop-i-preserved c =
-    let within : c.loop-i.i < 508 = omega arith in
-    let here : c.from.result ≡ get_or c.args.self.now.bytes.now c.loop-i.i 0 = c.from.ensures ∙ ap (λ bs. get_or bs c.loop-i.i 0) c.checked-byte-items.ensures.value ∙ get_or-take 508 c.args.self.now.bytes.now c.loop-i.i 0 within in
-    record { summed = weighted_more _ _ _ _ c.loop-i.invariant.summed here; small = omega (arith, bound c) }
+  so : Weighed c.args.self.now.bytes.now c.in-Some.weight c.loop-byte.sum c.loop-byte.byte-iterator.a.rest.now
+  so = rw c.in-Some.ensures.steps.1.0 c.loop-byte.invariant
+
+  term : c.in-Some.weight * c.from.result ≤ 508 * 255
+  term = term_small _ size _ _ _ so _ _ small at
+
+pub overflow_mul-sum : goal.overflow_mul-sum
+overflow_mul-sum c = record { fits = omega (arith, term c) }
+
+pub overflow_add-sum : goal.overflow_add-sum
+overflow_add-sum c = record { fits = sum_small _ (size c) _ _ _ (so c) _ _ (small c) (at c) }
+
+pub loop-byte-preserved : goal.loop-byte-preserved
+loop-byte-preserved c = rw c.in-Some.ensures.steps.1.1 (more_weighed _ (size c) _ _ _ (so c) _ _ (small c) (at c))
+
+pub returns : goal.returns
+returns c =
+    let size : 508 ≤ length c.args.self.now.bytes.now = omega (arith, ap length c.checked.ensures.value, length-take 508 c.args.self.now.bytes.now) in
+    all_weighed _ size _ _ _ c.loop-byte.invariant (elim c.in-None.ensures.steps [ inl none ↦ inr none.1.0 | inr over ↦ inl over.1.0 ])
