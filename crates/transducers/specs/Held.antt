@@ -1,5 +1,5 @@
 -- Edges held to counts: an edge outside them reads as nothing. Assumes nothing.
-use Rattle.std.specs.Prelude.{ℕ, ◌<◌, ◌≤◌, Bool, cond, ◌&&◌, Some, None, Option, nat_lt}
+use Rattle.std.specs.Prelude.{◌≡◌, ℕ, ◌<◌, ◌≤◌, Bool, cond, ◌&&◌, Some, None, Option, nat_lt}
 use Rattle.transducers.specs.Meaning.{Edge, Meaning, from, to, south, north}
 use Rattle.transducers.specs.Stacking.{stack}
 use Rattle.transducers.specs.declared.counts.Counts.{Counts}
@@ -26,6 +26,12 @@ held_to c edge = record {
 -- the stack of two transducers, held to its counts; making it promises that this is the stack itself
 abbrev pub stack_held : Counts → Meaning → Meaning → Meaning
 stack_held c l u = held_to c (stack l u).edge
+
+-- the counts of a transducer
+pub record CountsOf (c : Counts) (m : Meaning) : Type 0 where
+  pub states : c.states ≡ m.states
+  pub letters : c.letters ≡ m.letters
+  pub slots : c.slots ≡ m.slots
 
 -- when a stack is refused: too many states, which is found first, or too many slots
 abbrev pub StackRefused : StackFault → Meaning → Meaning → Type 0

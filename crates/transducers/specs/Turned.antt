@@ -1,6 +1,7 @@
 -- A turned transducer keeps the limits. Assumes nothing.
 use Rattle.std.specs.Prelude.{◌≡◌, ℕ, Some, None, Option, refl}
-use Rattle.std.proofs.Common.{ap, subst, arith}
+use Rattle.std.proofs.Common.{ap, subst}
+use Rattle.std.proofs.lemmas.Option.{none-some, same_Some}
 use Rattle.std.specs.Option.{option_map}
 use Rattle.transducers.specs.Meaning.{Edge, Meaning, Inside, Valid}
 use Rattle.transducers.specs.Turning.{turn, turned_edge}
@@ -14,11 +15,12 @@ module _ (m : Meaning) (v : Valid m) where
     north_letter = h.to_state;
   }
 
-  found : (i : ℕ) (o : Option Edge) → m.edge i ≡ o → (e : Edge) → option_map turned_edge o ≡ Some e → Inside m.letters m.states e
-  found i None is e at = let z : ◌≡◌ {A = ℕ} 0 1 = cc in absurd (omega arith)
+  found :
+      (i : ℕ) (o : Option Edge) → m.edge i ≡ o → (e : Edge) → option_map turned_edge o ≡ Some e →
+      Inside m.letters m.states e
+  found i None is e at = absurd (none-some e at)
   found i (Some d) is e at =
-      let same : turned_edge d ≡ e = cc in
-      subst (Inside m.letters m.states) same (turned_inside d (v.inside i d is))
+      subst (Inside m.letters m.states) (same_Some _ e at) (turned_inside d (v.inside i d is))
 
   pub turn_valid : Valid (turn m)
   turn_valid = record {

@@ -20,7 +20,7 @@ impl<T: Transducer> Turn<T> {
 }
 
 impl<T: Transducer> Transducer for Turn<T> {
-    ghost meaning = { λ t. turn (T.Transducer.meaning t.below) };
+    ghost meaning = { λ t. turn (T.meaning t.below) };
 
     ghost valid = { λ t. turn_valid _ (T.Transducer.valid t.below) };
 
@@ -37,9 +37,7 @@ impl<T: Transducer> Transducer for Turn<T> {
     }
 
     fn slot(&self, i: u32) -> Option<(u32, u32, u32, u32)> {
-        match self.below.slot(i) {
-            Some((from, to, south, north)) => Some((south, north, from, to)),
-            None => None,
-        }
+        let (from, to, south, north) = self.below.slot(i)?;
+        Some((south, north, from, to))
     }
 }

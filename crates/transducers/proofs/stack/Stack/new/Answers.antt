@@ -4,8 +4,6 @@ use Rattle.transducers.proofs.stack.Stack.new.Goals as goal
 
 pub returns : goal.returns
 returns g c =
-    let told = c.in_ok-counts.ensures in (
-      refl,
-      refl,
-      stack_is_held _ _ (g.met.L.Transducer.valid c.args.lower) (g.met.U.Transducer.valid c.args.upper) c.in_ok-counts.counts told.0 told.1 told.2,
-    )
+    let l = g.met.L.Transducer.valid c.args.lower in
+    let u = g.met.U.Transducer.valid c.args.upper in
+    (refl, refl, stack_is_held _ _ l u c.in_ok-counts.counts c.in_ok-counts.ensures)
