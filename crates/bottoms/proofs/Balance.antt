@@ -1,13 +1,13 @@
 -- A row of the catalogue multiplies, and no row has a common factor. Assumes nothing.
-use Rattle.std.proofs.Common.{◌≡◌, ℕ, ◌+◌, ◌-◌, ◌*◌, ◌/◌, ◌%◌, ◌<◌, Bool, true, false, cond, ◌&&◌, ltb, leb, Some, None, sym, refl, ap, ◌∙◌, subst, mul_comm, arith}
+use Rattle.std.proofs.Common.{◌≡◌, ℕ, ◌+◌, ◌-◌, ◌*◌, ◌/◌, ◌%◌, ◌<◌, true, ltb, leb, Some, sym, refl, ap, ◌∙◌, subst, mul_comm, arith}
 use Rattle.std.proofs.lemmas.Nat.{div-add-mod', div-mul-add, mod_below, mod-mul-add, mul-add-lt}
 use Rattle.std.proofs.lemmas.Int.{ints}
-use Rattle.std.proofs.lemmas.Bool.{and_from, le-leb, leb-true, lt-ltb}
-use Rattle.bottoms.specs.Catalogue.{alphabet, carries, catalogue, multiplied, north_in, product, slot_of, south_in, west_in}
+use Rattle.std.proofs.lemmas.Bool.{and_from, le-leb, lt-ltb}
+use Rattle.bottoms.specs.Catalogue.{alphabet, carries, catalogue, north_in, slot_of, south_in, west_in}
 use Rattle.transducers.specs.Meaning.{Edge, from, to, south, north}
 use Rattle.bottoms.specs.Multiplying.{Balanced, Letter, Multiplies}
 use Rattle.bottoms.specs.declared.multiplier.Multiplier.{Multiplier}
-use Rattle.bottoms.specs.Multipliers.{Small, some_letter}
+use Rattle.bottoms.specs.Multipliers.{Small, edge_found, some_letter}
 
 module _ (r : Multiplier) (small : Small r) where
   -- p - 1 stands on both sides, so states balance as carries do
@@ -37,15 +37,22 @@ module _ (r : Multiplier) (small : Small r) where
     west_is = ap (λ n. n / alphabet r) front ∙ div-mul-add c (alphabet r) (s - r.low) south_place
 
     south_is : south_in r i ≡ s
-    south_is = ap (λ n. r.low + n % alphabet r) front ∙ ap (λ n. r.low + n) (mod-mul-add c (alphabet r) (s - r.low) south_place) ∙ omega (arith, low.least)
+    south_is =
+        let back = mod-mul-add c (alphabet r) (s - r.low) south_place in
+        ap (λ n. r.low + n % alphabet r) front ∙ ap (λ n. r.low + n) back ∙ omega (arith, low.least)
 
     north_is : north_in r i ≡ t
-    north_is = ap (λ n. r.low + n) (mod-mul-add row_part (alphabet r) (t - r.low) north_place) ∙ omega (arith, high.least)
+    north_is =
+        let back = mod-mul-add row_part (alphabet r) (t - r.low) north_place in
+        ap (λ n. r.low + n) back ∙ omega (arith, high.least)
 
     slot_inside : i < carries r * alphabet r * alphabet r
     slot_inside =
-        let a : row_part < carries r * alphabet r = rw (mul_comm (carries r) (alphabet r)) (mul-add-lt c (alphabet r) (s - r.low) (carries r) state south_place) in
-        rw (mul_comm (carries r * alphabet r) (alphabet r)) (mul-add-lt row_part (alphabet r) (t - r.low) (carries r * alphabet r) a north_place)
+        let rows = carries r * alphabet r in
+        let a : row_part < rows =
+        rw (mul_comm (carries r) (alphabet r))
+        (mul-add-lt c (alphabet r) (s - r.low) (carries r) state south_place) in
+        rw (mul_comm rows (alphabet r)) (mul-add-lt row_part (alphabet r) (t - r.low) rows a north_place)
 
     each_at : (e : ℕ) → e < carries r → Balanced r c e s t → (catalogue r).edge i ≡ Some (c, e, s, t)
     each_at e within b =
@@ -57,7 +64,7 @@ module _ (r : Multiplier) (small : Small r) where
 
   slot_again : (i : ℕ) → i ≡ slot_of r (west_in r i) (south_in r i) (north_in r i)
   slot_again i =
-      let rows : i / alphabet r / alphabet r * alphabet r + i / alphabet r % alphabet r ≡ i / alphabet r = div-add-mod' (i / alphabet r) (alphabet r) in
+      let rows = div-add-mod' (i / alphabet r) (alphabet r) in
       let south-back : south_in r i - r.low ≡ i / alphabet r % alphabet r = omega arith in
       let north-back : north_in r i - r.low ≡ i % alphabet r = omega arith in
       sym (rw (south-back, north-back, rows) (div-add-mod' i (alphabet r)))
@@ -75,22 +82,19 @@ module _ (r : Multiplier) (small : Small r) where
   }
 
   abbrev Only : ℕ → Edge → Type 0
-  Only i e = (i ≡ slot_of r (from e) (south e) (north e)) × Letter r (south e) × Letter r (north e) × Balanced r (from e) (to e) (south e) (north e)
+  Only i e =
+      (i ≡ slot_of r (from e) (south e) (north e))
+      × Letter r (south e) × Letter r (north e)
+      × Balanced r (from e) (to e) (south e) (north e)
 
-  only_by : (i : ℕ) (e : Edge) (a b : Bool) → leb (r.d * north_in r i) (product r i) ≡ a → cond (a && b) (Some (west_in r i, product r i - r.d * north_in r i, south_in r i, north_in r i)) None ≡ Some e → Only i e
-  only_by i e true true enough is =
-      let same : ◌≡◌ {A = Edge} (west_in r i, product r i - r.d * north_in r i, south_in r i, north_in r i) e = cc in
-      let most = leb-true _ _ enough in
-      subst (Only i) same (slot_again i, letter_south i, letter_north i, states_balanced _ _ _ _ (omega (arith, most)))
-  only_by i e true false enough is = let z : ◌≡◌ {A = ℕ} 0 1 = cc in absurd (omega arith)
-  only_by i e false b enough is = let z : ◌≡◌ {A = ℕ} 0 1 = cc in absurd (omega arith)
-
-  only_at : (i : ℕ) (e : Edge) (b : Bool) → cond b (multiplied r i) None ≡ Some e → Only i e
-  only_at i e true is = only_by i e _ _ refl is
-  only_at i e false is = let z : ◌≡◌ {A = ℕ} 0 1 = cc in absurd (omega arith)
+  only_at : (i : ℕ) (e : Edge) → (catalogue r).edge i ≡ Some e → Only i e
+  only_at i e is =
+      let found = edge_found r i e is in
+      let balance = states_balanced _ _ _ _ (grind (arith, found.carried)) in
+      subst (Only i) found.same (slot_again i, letter_south i, letter_north i, balance)
 
   pub catalogue_multiplies : Multiplies r (catalogue r)
   catalogue_multiplies = record {
     each = λ c e s t state within low high b. each_at c s t state low high e within b;
-    only = λ i e is. only_at i e _ is;
+    only = only_at;
   }

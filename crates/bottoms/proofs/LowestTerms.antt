@@ -1,7 +1,7 @@
 -- No row of the catalogue has a common factor: one test, computed over the whole table. Assumes nothing.
-use Rattle.std.proofs.Common.{◌≡◌, ℕ, zero, suc, ◌-◌, ◌*◌, ◌%◌, ◌<◌, ◌≤◌, Bool, true, false, cond, not, ◌&&◌, eqb, leb, List, [], ◌∷◌, length, get_or, Some, None, refl, mul-zero, zero-mul, arith}
+use Rattle.std.proofs.Common.{◌≡◌, ℕ, zero, suc, ◌-◌, ◌*◌, ◌%◌, ◌<◌, ◌≤◌, Bool, true, not, ◌&&◌, eqb, leb, List, [], ◌∷◌, length, get_or, refl, mul-zero, zero-mul, arith}
 use Rattle.std.proofs.lemmas.Nat.{mul-le}
-use Rattle.std.proofs.lemmas.Bool.{and_parts, eq-eqb, leb-true, not-true, both_ways, and_from}
+use Rattle.std.proofs.lemmas.Bool.{and_parts}
 use Rattle.bottoms.specs.Catalogue.{is_row, multiplier, table, table_row}
 use Rattle.bottoms.specs.Multiplying.{Coprime}
 use Rattle.bottoms.specs.Multipliers.{Small}
@@ -22,15 +22,16 @@ abbrev all_lowest : List Multiplier → Bool
 all_lowest [] = true
 all_lowest (r ∷ rs) = lowest r && all_lowest rs
 
-at_each : (rs : List Multiplier) (i : ℕ) (d : Multiplier) → all_lowest rs ≡ true → i < length rs → lowest (get_or rs i d) ≡ true
+at_each :
+    (rs : List Multiplier) (i : ℕ) (d : Multiplier) → all_lowest rs ≡ true → i < length rs →
+    lowest (get_or rs i d) ≡ true
 at_each [] i d all within = absurd (omega arith)
 at_each (r ∷ rs) zero d all within = (and_parts (lowest r) _ all).0
 at_each (r ∷ rs) (suc i) d all within = at_each rs i d (and_parts (lowest r) _ all).1 (omega arith)
 
 -- a factor of both is none of those that the test rules out
 not_common : (k p d : ℕ) → p % k ≡ 0 → d % k ≡ 0 → not (divides_both k p d) ≡ true → ⊥
-not_common k p d low high test =
-    both_ways (divides_both k p d) (not-true _ test) (and_from _ _ (eq-eqb _ _ low) (eq-eqb _ _ high))
+not_common k p d low high test = grind arith
 
 -- what the test says of a row
 record Lowest (r : Multiplier) : Type 0 where
@@ -40,27 +41,22 @@ record Lowest (r : Multiplier) : Type 0 where
   no_four : not (divides_both 4 r.p r.d) ≡ true
 
 small_parts : (r : Multiplier) → small r ≡ true → Small r
-small_parts r test =
-    let a = and_parts (leb 1 r.p) _ test in
-    let b = and_parts (leb r.p 4) _ a.1 in
-    let c = and_parts (leb 1 r.d) _ b.1 in
-    let d = and_parts (leb r.d 4) _ c.1 in
-    let e = and_parts (leb r.low r.high) _ d.1 in
-    record {
-      some_p = leb-true _ _ a.0;
-      few_p = leb-true _ _ b.0;
-      some_d = leb-true _ _ c.0;
-      few_d = leb-true _ _ d.0;
-      in_order = leb-true _ _ e.0;
-      few_letters = leb-true _ _ e.1;
-    }
+small_parts r test = record {
+  some_p = grind arith;
+  few_p = grind arith;
+  some_d = grind arith;
+  few_d = grind arith;
+  in_order = grind arith;
+  few_letters = grind arith;
+}
 
 lowest_parts : (r : Multiplier) → lowest r ≡ true → Lowest r
-lowest_parts r test =
-    let a = and_parts (small r) _ test in
-    let c = and_parts (not (divides_both 2 r.p r.d)) _ a.1 in
-    let d = and_parts (not (divides_both 3 r.p r.d)) _ c.1 in
-    record { limits = small_parts r a.0; no_two = c.0; no_three = d.0; no_four = d.1 }
+lowest_parts r test = record {
+  limits = small_parts r (grind arith);
+  no_two = grind arith;
+  no_three = grind arith;
+  no_four = grind arith;
+}
 
 too_large : (k p a : ℕ) → 5 ≤ k → 1 ≤ p → p ≤ 4 → p ≡ k * a → ⊥
 too_large k p zero large some few is = omega (arith, is, mul-zero k)
@@ -80,10 +76,7 @@ coprime_by r l (suc (suc (suc (suc (suc k))))) a b p-is d-is =
 
 rows_lowest : (k : ℕ) → is_row k ≡ true → Lowest (table_row k)
 rows_lowest k row =
-    let bounds = and_parts (leb 1 k) _ row in
-    let low = leb-true 1 k bounds.0 in
-    let high = leb-true k 8 bounds.1 in
-    lowest_parts _ (at_each table (k - 1) (multiplier 0 0 0 0) refl (omega arith))
+    lowest_parts _ (at_each table (k - 1) (multiplier 0 0 0 0) refl (grind arith))
 
 -- no row's numerator and denominator have a common factor
 pub rows_coprime : (k : ℕ) → is_row k ≡ true → Coprime (table_row k).p (table_row k).d
@@ -91,11 +84,3 @@ rows_coprime k row = coprime_by (table_row k) (rows_lowest k row)
 
 pub rows_small : (k : ℕ) → is_row k ≡ true → Small (table_row k)
 rows_small k row = (rows_lowest k row).limits
-
--- what looking a row up found
-pub row_found : (k : ℕ) (r : Multiplier) → Some r ≡ cond (is_row k) (Some (table_row k)) None → (is_row k ≡ true) × (r ≡ table_row k)
-row_found k r told = by_test (is_row k) refl told
-  where
-    by_test : (b : Bool) → is_row k ≡ b → Some r ≡ cond b (Some (table_row k)) None → (is_row k ≡ true) × (r ≡ table_row k)
-    by_test true row is = (row, cc)
-    by_test false row is = let z : ◌≡◌ {A = ℕ} 0 1 = cc in absurd (omega arith)

@@ -1,8 +1,9 @@
 -- A row of the catalogue keeps the limits. Assumes nothing.
 use Rattle.std.specs.Prelude.{◌≡◌, ℕ, ◌+◌, ◌-◌, ◌*◌, ◌/◌, ◌<◌, ◌≤◌, Bool, true, false, cond, ◌&&◌, Some, None, nat_le, nat_lt, refl}
 use Rattle.std.proofs.Common.{subst, arith}
+use Rattle.std.proofs.lemmas.Option.{cond_some, none-some}
 use Rattle.std.proofs.lemmas.Nat.{div_below, mod_below, mul-le}
-use Rattle.std.proofs.lemmas.Bool.{and_parts, ltb-true, le-ltb}
+use Rattle.std.proofs.lemmas.Bool.{ltb-true, le-ltb}
 use Rattle.bottoms.specs.Catalogue.{alphabet, carries, catalogue, multiplied, north_in, product, south_in, west_in}
 use Rattle.transducers.specs.Meaning.{Edge, Inside, Valid}
 use Rattle.bottoms.specs.declared.multiplier.Multiplier.{Multiplier}
@@ -15,6 +16,31 @@ pub record Small (r : Multiplier) : Type 0 where
   pub few_d : r.d ≤ 4
   pub in_order : r.low ≤ r.high
   pub few_letters : r.high ≤ 4
+
+-- what is left over in slot i is a carry's state
+abbrev pub leaves_carry : Multiplier → ℕ → Bool
+leaves_carry r i = nat_le (r.d * north_in r i) (product r i) && nat_lt (product r i - r.d * north_in r i) (carries r)
+
+-- the edge that slot i has then
+abbrev pub edge_in : Multiplier → ℕ → Edge
+edge_in r i = (west_in r i, product r i - r.d * north_in r i, south_in r i, north_in r i)
+
+-- what an edge in slot i shows
+pub record Found (r : Multiplier) (i : ℕ) (e : Edge) : Type 0 where
+  pub within : i < carries r * alphabet r * alphabet r
+  pub carried : leaves_carry r i ≡ true
+  pub same : edge_in r i ≡ e
+
+pub edge_found : (r : Multiplier) (i : ℕ) (e : Edge) → (catalogue r).edge i ≡ Some e → Found r i e
+edge_found r i e is = by_test _ refl is
+  where
+    by_test :
+        (b : Bool) → nat_lt i (carries r * alphabet r * alphabet r) ≡ b →
+        cond b (multiplied r i) None ≡ Some e → Found r i e
+    by_test true within told =
+        let h = cond_some (leaves_carry r i) (edge_in r i) e told in
+        record { within = ltb-true _ _ within; carried = h.0; same = h.1 }
+    by_test false within told = absurd (none-some e told)
 
 module _ (r : Multiplier) (small : Small r) where
   pub some_letter : 1 ≤ alphabet r
@@ -34,7 +60,8 @@ module _ (r : Multiplier) (small : Small r) where
 
   pub west_below : (i : ℕ) → i < carries r * alphabet r * alphabet r → west_in r i < carries r
   west_below i within =
-      div_below (i / alphabet r) (alphabet r) (carries r) some_letter (div_below i (alphabet r) (carries r * alphabet r) some_letter within)
+      let front = div_below i (alphabet r) (carries r * alphabet r) some_letter within in
+      div_below (i / alphabet r) (alphabet r) (carries r) some_letter front
 
   pub south_below : (i : ℕ) → south_in r i < r.high + 1
   south_below i = omega (arith, mod_below (i / alphabet r) (alphabet r) some_letter)
@@ -42,23 +69,20 @@ module _ (r : Multiplier) (small : Small r) where
   pub north_below : (i : ℕ) → north_in r i < r.high + 1
   north_below i = omega (arith, mod_below i (alphabet r) some_letter)
 
-  abbrev test : ℕ → Bool
-  test i = nat_le (r.d * north_in r i) (product r i) && nat_lt (product r i - r.d * north_in r i) (carries r)
+  edge_inside :
+      (i : ℕ) → i < carries r * alphabet r * alphabet r → leaves_carry r i ≡ true →
+      Inside (carries r) (r.high + 1) (edge_in r i)
+  edge_inside i within passed = record {
+    from_state = west_below i within;
+    to_state = grind arith;
+    south_letter = south_below i;
+    north_letter = north_below i;
+  }
 
-  edge_inside : (i : ℕ) (e : Edge) (b : Bool) → i < carries r * alphabet r * alphabet r → test i ≡ b → cond b (Some (west_in r i, product r i - r.d * north_in r i, south_in r i, north_in r i)) None ≡ Some e → Inside (carries r) (r.high + 1) e
-  edge_inside i e true within passed is =
-      let same : ◌≡◌ {A = Edge} (west_in r i, product r i - r.d * north_in r i, south_in r i, north_in r i) e = cc in
-      subst (Inside (carries r) (r.high + 1)) same (record {
-        from_state = west_below i within;
-        to_state = ltb-true _ _ (and_parts (nat_le (r.d * north_in r i) (product r i)) _ passed).1;
-        south_letter = south_below i;
-        north_letter = north_below i;
-      })
-  edge_inside i e false within passed is = let z : ◌≡◌ {A = ℕ} 0 1 = cc in absurd (omega arith)
-
-  slot_inside : (i : ℕ) (e : Edge) (b : Bool) → nat_lt i (carries r * alphabet r * alphabet r) ≡ b → cond b (multiplied r i) None ≡ Some e → Inside (carries r) (r.high + 1) e
-  slot_inside i e true within is = edge_inside i e (test i) (ltb-true _ _ within) refl is
-  slot_inside i e false within is = let z : ◌≡◌ {A = ℕ} 0 1 = cc in absurd (omega arith)
+  slot_inside : (i : ℕ) (e : Edge) → (catalogue r).edge i ≡ Some e → Inside (carries r) (r.high + 1) e
+  slot_inside i e is =
+      let found = edge_found r i e is in
+      subst (Inside (carries r) (r.high + 1)) found.same (edge_inside i found.within found.carried)
 
   pub catalogue_valid : Valid (catalogue r)
   catalogue_valid = record {
@@ -68,6 +92,6 @@ module _ (r : Multiplier) (small : Small r) where
     few_letters = omega arith;
     some_slot = slots_some;
     few_slots = omega (arith, slots_few);
-    inside = λ i e is. slot_inside i e _ refl is;
+    inside = slot_inside;
     beyond = λ i past. rw (le-ltb i (carries r * alphabet r * alphabet r) past) refl;
   }

@@ -19,8 +19,14 @@ pub record Letter (r : Multiplier) (s : ℕ) : Type 0 where
 
 -- the edges are the balanced ones, each in the slot of its west state, south and north
 pub record Multiplies (r : Multiplier) (m : Meaning) : Type 0 where
-  pub each : (c e s t : ℕ) → c < carries r → e < carries r → Letter r s → Letter r t → Balanced r c e s t → m.edge (slot_of r c s t) ≡ Some (c, e, s, t)
-  pub only : (i : ℕ) (e : Edge) → m.edge i ≡ Some e → (i ≡ slot_of r (from e) (south e) (north e)) × Letter r (south e) × Letter r (north e) × Balanced r (from e) (to e) (south e) (north e)
+  pub each :
+      (c e s t : ℕ) → c < carries r → e < carries r → Letter r s → Letter r t → Balanced r c e s t →
+      m.edge (slot_of r c s t) ≡ Some (c, e, s, t)
+  pub only :
+      (i : ℕ) (e : Edge) → m.edge i ≡ Some e →
+      (i ≡ slot_of r (from e) (south e) (north e))
+      × Letter r (south e) × Letter r (north e)
+      × Balanced r (from e) (to e) (south e) (north e)
 
 -- two numbers have no common factor but 1
 abbrev pub Coprime : ℕ → ℕ → Type 0

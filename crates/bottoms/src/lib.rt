@@ -9,6 +9,6 @@ mod tile;
 
 pub use catalogue::CatalogueTransducer;
 pub use fault::{ListFault, RowFault};
-pub use list::ListTransducer;
+pub use list::{ListTransducer, MOST_TILES};
 pub use multiplier::{Multiplier, multiplier_in};
 pub use tile::Tile;

@@ -3,7 +3,7 @@ ghost use Rattle.std.specs.Prelude.{◌≡◌, if◌then◌else◌, Some, None};
 ghost use Rattle.bottoms.specs.Catalogue.{is_row, table_row};
 
 // A row: the numerator and the denominator of the multiplier, its least and its greatest letter.
-#[derive(Clone, Copy)]
+#[derive(Clone, Copy, PartialEq, Eq, Debug)]
 pub struct Multiplier {
     pub p: u32,
     pub d: u32,
@@ -66,8 +66,6 @@ const ROWS: [Multiplier; 8] = [
 pub fn multiplier_in(row: u8) -> Option<Multiplier>
     ensures { result ≡ (if is_row row then Some (table_row row) else None) }
 {
-    if row < 1 || row > 8 {
-        return None;
-    }
-    Some(ROWS[(row - 1) as usize])
+    let index = row.checked_sub(1)?;
+    ROWS.get(usize::from(index)).copied()
 }
