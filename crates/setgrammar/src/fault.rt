@@ -1,6 +1,5 @@
 // Where a text stops being a set text, and why.
 ghost use Rattle.std.specs.Prelude.{◌≡◌};
-ghost use Rattle.setgrammar.specs.Faults.{fault_number, fault_line, fault_column};
 
 // A byte of a text by its line and its column, both counted from 1.
 #[derive(Clone, Copy, PartialEq, Eq, Debug)]
@@ -29,6 +28,8 @@ pub enum TextFault {
 }
 
 impl TextFault {
+    ghost use Rattle.setgrammar.specs.Faults.{fault_column, fault_line, fault_number, fault_position};
+
     pub fn number(self) -> u8
         ensures { result ≡ fault_number self }
     {
@@ -43,33 +44,32 @@ impl TextFault {
         }
     }
 
+    // Where the fault is, unless the text is too long.
+    pub fn position(self) -> Option<Position>
+        ensures { result ≡ fault_position self }
+    {
+        match self {
+            TextFault::Start(at)
+            | TextFault::Byte(at)
+            | TextFault::Range(at)
+            | TextFault::Turn(at)
+            | TextFault::Full(at)
+            | TextFault::Ends(at) => Some(at),
+            TextFault::Long => None,
+        }
+    }
+
     // The fault's line, 0 where the text is too long.
     pub fn line(self) -> u32
         ensures { result ≡ fault_line self }
     {
-        match self {
-            TextFault::Start(at) => at.line,
-            TextFault::Byte(at) => at.line,
-            TextFault::Range(at) => at.line,
-            TextFault::Turn(at) => at.line,
-            TextFault::Full(at) => at.line,
-            TextFault::Ends(at) => at.line,
-            TextFault::Long => 0,
-        }
+        self.position().map_or(0, |at| at.line)
     }
 
     // The fault's column, 0 where the text is too long.
     pub fn column(self) -> u32
         ensures { result ≡ fault_column self }
     {
-        match self {
-            TextFault::Start(at) => at.column,
-            TextFault::Byte(at) => at.column,
-            TextFault::Range(at) => at.column,
-            TextFault::Turn(at) => at.column,
-            TextFault::Full(at) => at.column,
-            TextFault::Ends(at) => at.column,
-            TextFault::Long => 0,
-        }
+        self.position().map_or(0, |at| at.column)
     }
 }

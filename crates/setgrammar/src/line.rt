@@ -1,7 +1,7 @@
 // The kinds of lines, and how far a reader has come in their order.
 
 // The kind of a line, which its first character says.
-#[derive(Clone, Copy)]
+#[derive(Clone, Copy, PartialEq, Eq, Debug)]
 pub enum LineKind {
     // the number of the pile
     Pile,
@@ -16,7 +16,7 @@ pub enum LineKind {
 }
 
 // What the lines so far have said.
-#[derive(Clone, Copy)]
+#[derive(Clone, Copy, PartialEq, Eq, Debug)]
 pub enum Stage {
     // nothing
     Empty,
