@@ -2,8 +2,7 @@
 #![tactic(auto)]
 
 mod cursor;
-mod forms;
 mod reader;
-mod scan;
 
+pub use bottoms::MOST_TILES;
 pub use reader::read_set;

@@ -3,15 +3,12 @@ ghost use Rattle.std.specs.Prelude.{◌≡◌, OnErr};
 ghost use Rattle.setgrammar.specs.Law.{Law};
 ghost use Rattle.setgrammar.specs.Lines.{tile_at, line_at, said, set_text};
 ghost use Rattle.settext.specs.Cursors.{here};
-ghost use Rattle.settext.specs.Readers.{state_of, stepped};
 
 use crate::cursor::Cursor;
-use bottoms::Tile;
+use bottoms::{MOST_TILES, Tile};
 use setgrammar::{LineKind, Position, SetText, Stage, TextFault};
 
 const MOST_BYTES: usize = 65535;
-
-const MOST_TILES: u16 = 1024;
 
 // Where a reader stands, and what it has read.
 #[derive(Drop)]
@@ -21,6 +18,8 @@ pub(crate) struct Reader<'a> {
 }
 
 impl Reader<'_> {
+    ghost use Rattle.settext.specs.Readers.{state_of, stepped};
+
     // The rest of a tile line, whose tile comes after `count` others.
     fn tile(
         &mut self,
@@ -33,10 +32,11 @@ impl Reader<'_> {
             ≡ tile_at pile count tiles.old start (here self.old.cursor) }
         ensures kept { OnErr result (tiles.new ≡ tiles.old) }
     {
-        if count as usize >= tiles.len() || count >= MOST_TILES {
+        let place = usize::from(count);
+        if place >= tiles.len().min(MOST_TILES) {
             return Err(TextFault::Full(start));
         }
-        tiles[count as usize] = self.cursor.tile_line()?;
+        tiles[place] = self.cursor.tile_line()?;
         self.stage = Stage::Tiled(pile, count + 1);
         Ok(())
     }
@@ -53,10 +53,10 @@ impl Reader<'_> {
             (_, LineKind::Blank) => {}
             (_, LineKind::Note) => self.cursor.note()?,
             (Stage::Empty, LineKind::Pile) => {
-                self.stage = Stage::Piled(self.cursor.number_line(1, 6)?);
+                self.stage = Stage::Piled(self.cursor.number_line(1..=6)?);
             }
             (Stage::Piled(pile), LineKind::Row) => {
-                self.stage = Stage::Rowed(pile, self.cursor.number_line(1, 8)?);
+                self.stage = Stage::Rowed(pile, self.cursor.number_line(1..=8)?);
             }
             (Stage::Piled(pile), LineKind::Tile) => self.tile(pile, 0, start, tiles)?,
             (Stage::Tiled(pile, count), LineKind::Tile) => self.tile(pile, count, start, tiles)?,
