@@ -15,7 +15,8 @@ module _ (q r : Slice) where
   one_cut w s size (inr a) (inl b) = absurd (omega arith)
   one_cut w s size (inr a) (inr b) = one_part w 0 0 a.1 b.1
 
-  one_line : (text paper : Slice) (n : ℕ) → IsBlamed text paper (Line n) q → IsBlamed text paper (Line n) r → SamePart q r
+  one_line :
+      (text paper : Slice) (n : ℕ) → IsBlamed text paper (Line n) q → IsBlamed text paper (Line n) r → SamePart q r
   one_line text paper n (inl (s, e, a, p)) (inl (t, f, b, o)) =
       let start = one_start text.now n s t a.start b.start in
       let end = one_end text.now s t e f start a.end b.end in

@@ -1,5 +1,5 @@
 // The line, the block or the number that a refusal blames, as a part of the caller's bytes. Nothing is copied.
-ghost use Rattle.std.specs.Prelude.{◌≡◌, ◌+◌, ◌*◌, ◌/◌, ◌%◌, ◌<◌, ◌≤◌, length, MatchOption};
+ghost use Rattle.std.specs.Prelude.{◌≡◌, ◌+◌, ◌*◌, ◌/◌, ◌%◌, ◌^◌, ◌<◌, ◌≤◌, ◌==◌, length, position, MatchOption};
 ghost use Rattle.reports.specs.Excerpts.{blame_of, IsCut, LineStart, LineEnd, NoLine, IsBlamed, Excerpted, OnlyExcerpt};
 
 use papers::{BlockFault, PaperFault};
@@ -10,8 +10,8 @@ const BLOCK_BYTES: usize = 512;
 
 const BLOCK_NUMBERS: usize = 126;
 
-// The fault that is to be shown.
-#[derive(Clone, Copy)]
+// The fault that is to be shown. Both are faults, so a Result says no more.
+#[derive(Clone, Copy, PartialEq, Eq, Debug)]
 pub enum Refusal {
     // of a set text
     Set(TextFault),
@@ -35,15 +35,9 @@ fn blamed(refusal: Refusal) -> Blame
     ensures { result ≡ blame_of refusal }
 {
     match refusal {
-        Refusal::Set(
-            TextFault::Start(at)
-            | TextFault::Byte(at)
-            | TextFault::Range(at)
-            | TextFault::Turn(at)
-            | TextFault::Full(at)
-            | TextFault::Ends(at),
-        ) => Blame::Line(at.line),
-        Refusal::Set(TextFault::Long) => Blame::Nothing,
+        Refusal::Set(fault) => fault
+            .position()
+            .map_or(Blame::Nothing, |at| Blame::Line(at.line)),
         Refusal::Paper(
             DocketFault::Paper(
                 PaperFault::Block(
@@ -68,12 +62,14 @@ fn blamed(refusal: Refusal) -> Blame
 
 // So many bytes from a byte on, or the empty front where they are not all there.
 fn part(bytes: &[u8], start: usize, size: usize) -> &[u8]
+    requires { start + size < 2 ^ 64 }
     ensures { IsCut bytes.entry start size result }
 {
-    if start <= bytes.len() && size <= bytes.len() - start {
+    // What `get` ensures does not say where its part stands.
+    if start + size <= bytes.len() {
         &bytes[start..start + size]
     } else {
-        &bytes[0..0]
+        &bytes[..0]
     }
 }
 
@@ -81,44 +77,35 @@ fn part(bytes: &[u8], start: usize, size: usize) -> &[u8]
 fn block_part(paper: &[u8], block: u16) -> &[u8]
     ensures { IsCut paper.entry (512 * block) 512 result }
 {
-    part(paper, BLOCK_BYTES * block as usize, BLOCK_BYTES)
+    part(paper, BLOCK_BYTES * usize::from(block), BLOCK_BYTES)
 }
 
 // The four bytes of the number at a place of a paper.
 fn number_part(paper: &[u8], place: u32) -> &[u8]
     ensures { IsCut paper.entry (512 * (place / 126) + 4 + 4 * (place % 126)) 4 result }
 {
+    // Rust has no From from u32 to usize.
     let place = place as usize;
     let block = BLOCK_BYTES * (place / BLOCK_NUMBERS);
     part(paper, block + 4 + 4 * (place % BLOCK_NUMBERS), 4)
 }
 
-// Where a line after the first starts: after the line feed of the line before it.
-fn later_start(bytes: &[u8], line: u32) -> Option<usize>
-    requires { 1 < line }
-    ensures { MatchOption result (NoLine bytes.now line) (λ s. LineStart bytes.now line s) }
+// Where the first line feed stands.
+fn first_feed(bytes: &[u8]) -> Option<usize>
+    ensures { result ≡ position (λ b. b == 10) bytes.now }
 {
-    let mut at: u32 = 1;
-    for (i, byte) in bytes.iter().enumerate() {
-        if *byte == b'\n' {
-            at += 1;
-            if at == line {
-                return Some(i + 1);
-            }
-        }
-    }
-    None
+    bytes.iter().position(|byte| *byte == b'\n')
 }
 
-// Where a line starts, if there are so many.
+// Where a line starts, if there are so many: the first at 0, any other after a line feed.
 fn line_start(bytes: &[u8], line: u32) -> Option<usize>
     ensures { MatchOption result (NoLine bytes.now line) (λ s. LineStart bytes.now line s) }
 {
-    match line {
-        0 => None,
-        1 => Some(0),
-        _ => later_start(bytes, line),
+    let mut start = 0;
+    for _ in 0..line.checked_sub(1)? {
+        start += first_feed(&bytes[start..])? + 1;
     }
+    Some(start)
 }
 
 // Where the line that starts here ends: at its line feed, or at the end of the bytes.
@@ -126,12 +113,7 @@ fn line_end(bytes: &[u8], start: usize) -> usize
     requires { start ≤ length bytes.now }
     ensures { LineEnd bytes.now start result }
 {
-    for i in start..bytes.len() {
-        if bytes[i] == b'\n' {
-            return i;
-        }
-    }
-    bytes.len()
+    first_feed(&bytes[start..]).map_or(bytes.len(), |size| start + size)
 }
 
 // The part that is blamed.
@@ -141,11 +123,11 @@ fn blamed_part<'a>(text: &'a [u8], paper: &'a [u8], blame: Blame) -> &'a [u8]
     match blame {
         Blame::Line(line) => match line_start(text, line) {
             Some(start) => &text[start..line_end(text, start)],
-            None => &paper[0..0],
+            None => &paper[..0],
         },
         Blame::Block(block) => block_part(paper, block),
         Blame::Number(place) => number_part(paper, place),
-        Blame::Nothing => &paper[0..0],
+        Blame::Nothing => &paper[..0],
     }
 }
 

@@ -10,26 +10,31 @@ use std::alloc::{AllocError, Global};
 pub fn set_line(heap: Global, fault: TextFault) -> Result<String, AllocError>
     ensures { IfOk result (λ s. string_bytes s ≡ set_refused fault) }
 {
-    let number = fault.number();
-    let line = fault.line();
-    let column = fault.column();
-    format!(in heap; "set refused {number} line {line} column {column}")
+    format!(in heap;
+        "set refused {} line {} column {}",
+        fault.number(),
+        fault.line(),
+        fault.column()
+    )
 }
 
 fn accepted_line(heap: Global, paper: u32, ends: Ends) -> Result<String, AllocError>
     ensures { IfOk result (λ s. string_bytes s ≡ paper_accepted paper ends) }
 {
-    let floor = ends.floor;
-    let ceiling = ends.ceiling;
-    format!(in heap; "paper {paper} accepted floor {floor} ceiling {ceiling}")
+    format!(in heap;
+        "paper {paper} accepted floor {} ceiling {}",
+        ends.floor, ends.ceiling
+    )
 }
 
 fn refused_line(heap: Global, paper: u32, fault: DocketFault) -> Result<String, AllocError>
     ensures { IfOk result (λ s. string_bytes s ≡ paper_refused paper fault) }
 {
-    let number = fault.number();
-    let place = fault.place();
-    format!(in heap; "paper {paper} refused {number} at {place}")
+    format!(in heap;
+        "paper {paper} refused {} at {}",
+        fault.number(),
+        fault.place()
+    )
 }
 
 // The line of what filing a paper answered.
