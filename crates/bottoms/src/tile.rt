@@ -28,8 +28,8 @@ impl Tile {
     }
 
     // Its edge in a transducer: from, to, south, north.
-    pub(crate) fn edge(self) -> (u32, u32, u32, u32)
-        ensures { result ≡ tile_edge self }
+    pub(crate) fn edge(&self) -> (u32, u32, u32, u32)
+        ensures { result ≡ tile_edge self.now }
     {
         (
             u32::from(self.west),
