@@ -2,13 +2,12 @@
 ghost use Rattle.std.specs.Prelude.{◌≡◌};
 ghost use Rattle.papers.specs.Paper.{held};
 ghost use Rattle.rules.specs.Filing.{weighed};
-ghost use Rattle.rules.specs.Widths.{moved, narrower, wider};
 
 use crate::fault::DocketFault;
 use crate::ranks::check_ranking;
 use crate::rows::{check_ring, check_strip};
 use crate::torus::check_torus;
-use crate::width::{Claim, Ends, Width};
+use crate::width::{Claim, Width};
 use papers::{Kind, Paper};
 use transducers::Transducer;
 
@@ -32,43 +31,6 @@ pub fn weigh<P: Transducer>(pile: &P, paper: &Paper<'_>) -> Result<Claim, Docket
         Kind::Torus => {
             check_torus(pile, paper)?;
             Ok(Claim::Reaches(Width::Endless))
-        }
-    }
-}
-
-fn wider_of(a: Width, b: Width) -> Width
-    ensures { result ≡ wider a b }
-{
-    match (a, b) {
-        (Width::Number(a), Width::Number(b)) => Width::Number(a.max(b)),
-        _ => Width::Endless,
-    }
-}
-
-fn narrower_of(a: Width, b: Width) -> Width
-    ensures { result ≡ narrower a b }
-{
-    match (a, b) {
-        (Width::Number(a), Width::Number(b)) => Width::Number(a.min(b)),
-        (Width::Number(a), Width::Endless) => Width::Number(a),
-        (Width::Endless, b) => b,
-    }
-}
-
-impl Ends {
-    // The ends after a claim.
-    pub fn after(self, claim: Claim) -> Ends
-        ensures { result ≡ moved self claim }
-    {
-        match claim {
-            Claim::Reaches(width) => Ends {
-                floor: wider_of(self.floor, width),
-                ceiling: self.ceiling,
-            },
-            Claim::Limits(width) => Ends {
-                floor: self.floor,
-                ceiling: narrower_of(self.ceiling, width),
-            },
         }
     }
 }
