@@ -1,52 +1,44 @@
 -- One cell more of a row, and one rank more of a ranking. Assumes nothing.
-use Rattle.std.proofs.Common.{◌≡◌, ℕ, ◌+◌, ◌-◌, max, Bool, true, false, cond, eqb, List, get_or, Some, None, Ok, Err, Option, Result, sym, refl, ap, ◌∙◌, ap₂, add-one, arith}
+use Rattle.std.proofs.Common.{◌≡◌, ℕ, ◌+◌, ◌-◌, ◌<◌, max, false, eqb, List, get_or, Some, None, Ok, Err, Option, sym, refl, ap, ◌∙◌, ap₂, add-one, arith}
 use native.Mathlib.Nat.{max_comm}
-use Rattle.std.proofs.lemmas.Bool.{ne_eqb, eqb-true}
+use Rattle.std.proofs.lemmas.Bool.{ne_eqb}
 use Rattle.std.specs.Option.{option_map}
-use Rattle.papers.specs.First.{answered}
-use Rattle.papers.proofs.Order.{passed, refused, answer_of}
 use Rattle.transducers.specs.Meaning.{Edge, Meaning, from, to}
 use Rattle.rules.specs.Ranks.{highest}
-use Rattle.rules.specs.Rows.{cell, cell_meets, column, origin, arrival}
-use Rattle.rules.specs.Walks.{both_states}
+use Rattle.rules.specs.Rows.{arrival, cell, cell_meets, column, origin}
+use Rattle.rules.specs.Walks.{GoesOn, IsWalk, longer, state_of}
 use Rattle.rules.specs.declared.fault.DocketFault.{DocketFault}
-
-abbrev Told : Option Edge → Option ℕ → ℕ → Result (ℕ × ℕ) DocketFault → Type 0
-Told o state p r = r ≡ answered (cell_meets o state p) (both_states o)
-
--- a cell that passed names an edge, and its states were answered
-states_of : (o : Option Edge) (state : Option ℕ) (p : ℕ) (q : ℕ × ℕ) → Told o state p (Ok q) → (option_map from o ≡ Some q.0) × (option_map to o ≡ Some q.1)
-states_of None state p q told = let z : ◌≡◌ {A = ℕ} 0 1 = cc in absurd (omega arith)
-states_of (Some e) state p q told =
-    let same = answer_of _ (from e, to e) q told in
-    (ap (λ (s : ℕ × ℕ). Some s.0) (sym same), ap (λ (s : ℕ × ℕ). Some s.1) (sym same))
+use Rattle.rules.specs.declared.rows.Walk.{Walk}
 
 module _ (m : Meaning) (xs : List ℕ) (b j : ℕ) where
-  abbrev AtCell : Option ℕ → Result (ℕ × ℕ) DocketFault → Type 0
-  AtCell state r = Told (cell m xs (b + j)) state (b + j) r
+  started : 0 < j → eqb j 0 ≡ false
+  started some = ne_eqb j 0 (omega arith)
 
-  pub step_passes : (q : ℕ × ℕ) (state : Option ℕ) → state ≡ arrival m xs b j → AtCell state (Ok q) → column m xs b j ≡ Ok tt
-  step_passes q state is told = rw (← is) (passed _ _ _ told)
+  pub walk_arrival : (walk : Option Walk) → IsWalk m xs b j walk → arrival m xs b j ≡ state_of walk
+  walk_arrival None none = rw none refl
+  walk_arrival (Some w) h = rw (started h.0) h.2
 
-  pub step_refused : (f : DocketFault) (state : Option ℕ) → state ≡ arrival m xs b j → AtCell state (Err f) → column m xs b j ≡ Err f
-  step_refused f state is told = rw (← is) (refused _ _ _ told)
+  pub walk_origin : (walk : Option Walk) → IsWalk m xs b j walk → origin m xs b j ≡ option_map (λ w. w.origin) walk
+  walk_origin None none = rw none refl
+  walk_origin (Some w) h = rw (started h.0) h.1
 
-  later : eqb (j + 1) 0 ≡ false
-  later = ne_eqb (j + 1) 0 (omega arith)
+  here : b + (j + 1) - 1 ≡ b + j
+  here = omega arith
 
-  pub step_arrival : (q : ℕ × ℕ) (state : Option ℕ) → AtCell state (Ok q) → Some q.1 ≡ arrival m xs b (j + 1)
-  step_arrival q state told =
-      let here : b + (j + 1) - 1 ≡ b + j = omega arith in
-      rw (later, here) (sym (states_of _ state _ q told).1)
+  longer_walk : (walk : Option Walk) (e : Edge) → IsWalk m xs b j walk → cell m xs (b + j) ≡ Some e → IsWalk m xs b (j + 1) (Some (longer walk e))
+  longer_walk None e none is =
+      let first : b + j ≡ b = omega (arith, none) in
+      (omega arith, rw (← first) (ap (option_map from) is), rw here (ap (option_map to) is))
+  longer_walk (Some w) e h is = (omega arith, h.1, rw here (ap (option_map to) is))
 
-  origin_by : (q : ℕ × ℕ) (state o r : Option ℕ) (t : Bool) → eqb j 0 ≡ t → AtCell state (Ok q) → o ≡ cond t None (option_map from (cell m xs b)) → r ≡ cond t (Some q.0) o → r ≡ option_map from (cell m xs b)
-  origin_by q state o r true start told old is =
-      let here : b + j ≡ b = omega (arith, eqb-true j 0 start) in
-      is ∙ sym (states_of _ state _ q told).0 ∙ ap (λ p. option_map from (cell m xs p)) here
-  origin_by q state o r false start told old is = is ∙ old
+  -- the walk went on
+  pub gone_on : (walk : Option Walk) (w : Walk) → IsWalk m xs b j walk → GoesOn m xs (b + j) walk w → (column m xs b j ≡ Ok tt) × IsWalk m xs b (j + 1) (Some w)
+  gone_on walk w h on =
+      (rw (on.1, walk_arrival walk h, on.2) refl, rw on.3 (longer_walk walk on.0 h on.1))
 
-  pub step_origin : (q : ℕ × ℕ) (state o r : Option ℕ) → AtCell state (Ok q) → o ≡ origin m xs b j → r ≡ cond (eqb j 0) (Some q.0) o → r ≡ origin m xs b (j + 1)
-  step_origin q state o r told old is = rw later (origin_by q state o r (eqb j 0) refl told old is)
+  -- or it stopped
+  pub stopped : (walk : Option Walk) (f : DocketFault) → IsWalk m xs b j walk → cell_meets (cell m xs (b + j)) (state_of walk) (b + j) ≡ Err f → column m xs b j ≡ Err f
+  stopped walk f h at = rw (walk_arrival walk h) at
 
 -- one rank more
 pub highest_more : (xs : List ℕ) (n high rank r : ℕ) → high ≡ highest xs n → rank ≡ get_or xs n 0 → r ≡ max rank high → r ≡ highest xs (n + 1)

@@ -49,15 +49,14 @@ impl DocketFault {
         ensures { result ≡ docket_fault_place self }
     {
         match self {
-            DocketFault::Paper(fault) => fault.place() as u32,
-            DocketFault::Shape => 0,
-            DocketFault::HighRank(place) => place,
-            DocketFault::NoEdge(place) => place,
-            DocketFault::Apart(place) => place,
-            DocketFault::Open(place) => place,
-            DocketFault::ApartAbove(place) => place,
-            DocketFault::RankCount => 0,
-            DocketFault::NoFall(slot) => slot,
+            DocketFault::Paper(fault) => u32::from(fault.place()),
+            DocketFault::Shape | DocketFault::RankCount => 0,
+            DocketFault::HighRank(place)
+            | DocketFault::NoEdge(place)
+            | DocketFault::Apart(place)
+            | DocketFault::Open(place)
+            | DocketFault::ApartAbove(place)
+            | DocketFault::NoFall(place) => place,
         }
     }
 }

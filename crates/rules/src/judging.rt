@@ -4,33 +4,46 @@ ghost use Rattle.papers.specs.Paper.{held};
 ghost use Rattle.rules.specs.Filing.{weighed};
 
 use crate::fault::DocketFault;
-use crate::ranks::check_ranking;
-use crate::rows::{check_ring, check_strip};
-use crate::torus::check_torus;
 use crate::width::{Claim, Width};
 use papers::{Kind, Paper};
 use transducers::Transducer;
+
+// A paper beside the pile that it speaks of. Each rule is a method, in the file of its subject.
+#[derive(Drop)]
+pub(crate) struct Weighing<'a, P> {
+    pub(crate) pile: &'a P,
+    pub(crate) paper: &'a Paper<'a>,
+}
+
+impl<'a, P: Transducer> Weighing<'a, P> {
+    // The claim of the paper, if it keeps the rule of its kind.
+    fn claim(&self) -> Result<Claim, DocketFault>
+        ensures { result ≡ weighed (P.meaning self.now.pile.now) (held self.now.paper.now) }
+    {
+        match self.paper.kind() {
+            Kind::Strip => {
+                self.strip()?;
+                Ok(Claim::Reaches(Width::Number(self.paper.len())))
+            }
+            Kind::Ring => {
+                self.ring()?;
+                Ok(Claim::Reaches(Width::Endless))
+            }
+            Kind::Ranking => {
+                let height = self.ranking()?;
+                Ok(Claim::Limits(Width::Number(u32::from(height))))
+            }
+            Kind::Torus => {
+                self.torus()?;
+                Ok(Claim::Reaches(Width::Endless))
+            }
+        }
+    }
+}
 
 // The claim of a paper that keeps the rule of its kind, or its first fault.
 pub fn weigh<P: Transducer>(pile: &P, paper: &Paper<'_>) -> Result<Claim, DocketFault>
     ensures { result ≡ weighed (P.meaning pile.now) (held paper.now) }
 {
-    match paper.kind() {
-        Kind::Strip => {
-            check_strip(pile, paper)?;
-            Ok(Claim::Reaches(Width::Number(paper.len())))
-        }
-        Kind::Ring => {
-            check_ring(pile, paper)?;
-            Ok(Claim::Reaches(Width::Endless))
-        }
-        Kind::Ranking => {
-            let height = check_ranking(pile, paper)?;
-            Ok(Claim::Limits(Width::Number(height)))
-        }
-        Kind::Torus => {
-            check_torus(pile, paper)?;
-            Ok(Claim::Reaches(Width::Endless))
-        }
-    }
+    Weighing { pile, paper }.claim()
 }

@@ -1,128 +1,118 @@
 // Toruses: periodic tilings. Rows close, and each meets the row above; above the top row comes the bottom row.
-ghost use Rattle.std.specs.Prelude.{◌≡◌, ◌+◌, ◌-◌, ◌*◌, ◌<◌, ◌≤◌, true, if◌then◌else◌, nat_lt};
+ghost use Rattle.std.specs.Prelude.{◌≡◌, ◌+◌, ◌*◌, ◌<◌, ◌≤◌, true, false, MatchResult};
 ghost use Rattle.papers.specs.First.{first};
 ghost use Rattle.papers.specs.Paper.{held};
-ghost use Rattle.rules.specs.Torus.{above, fair_shape, fair_side, meets_above, rows, stacks, torus, torus_row, width};
+ghost use Rattle.rules.specs.Torus.{above, fair_shape, fair_side, meets_above, row_start, stacks, torus, torus_row, width as width_of, rows as rows_of};
+ghost use Rattle.rules.specs.declared.fault.DocketFault.TheVariants.{Shape};
 
 use crate::fault::DocketFault;
-use crate::rows::{close_row, edge_at};
-use papers::Paper;
+use crate::judging::Weighing;
 use transducers::Transducer;
+
+// A torus whose width, row count and cells fit together.
+#[derive(Drop)]
+struct Torus<'a, P> {
+    weighing: &'a Weighing<'a, P>,
+    width: u32,
+    rows: u32,
+    ghost is_width: { width ≡ width_of (held weighing.now.paper.now).numbers },
+    ghost is_rows: { rows ≡ rows_of (held weighing.now.paper.now).numbers },
+    ghost few_columns: { width ≤ 8062 },
+    ghost few_rows: { rows ≤ 8062 },
+}
 
 fn fair_side(n: u32) -> bool
     ensures { result ≡ fair_side n }
 {
-    1 <= n && n <= 8062
+    (1..=8062).contains(&n)
 }
 
-// Whether the width, the row count and the number of cells fit together.
-fn fair_shape(paper: &Paper<'_>) -> bool
-    ensures { result ≡ fair_shape (held paper.now).numbers }
-{
-    let wide = paper.number(0);
-    let high = paper.number(1);
-    3 <= paper.len() && fair_side(wide) && fair_side(high) && paper.len() == 2 + wide * high
-}
+impl<'a, P: Transducer> Torus<'a, P> {
+    fn new(weighing: &'a Weighing<'a, P>) -> Result<Torus<'a, P>, DocketFault>
+        ensures { MatchResult result
+            (λ t. (t.weighing.now ≡ weighing.now) × (fair_shape (held weighing.now.paper.now).numbers ≡ true))
+            (λ f. (f ≡ Shape) × (fair_shape (held weighing.now.paper.now).numbers ≡ false)) }
+    {
+        let paper = weighing.paper;
+        let width = paper.number(0);
+        let rows = paper.number(1);
+        if paper.len() < 3
+            || !fair_side(width)
+            || !fair_side(rows)
+            || paper.len() != 2 + width * rows
+        {
+            return Err(DocketFault::Shape);
+        }
+        Ok(Torus {
+            weighing,
+            width,
+            rows,
+        })
+    }
 
-// The cell above cell i of a torus of that width and size.
-fn cell_above(i: u32, wide: u32, size: u32) -> u32
-    requires { (i < size) × ((wide ≤ size) × (size < 65000000)) }
-    ensures { result ≡ (if nat_lt (i + wide) size then i + wide else i + wide - size) }
-{
-    if i + wide < size {
-        i + wide
-    } else {
-        i + wide - size
+    // The cell above cell i.
+    fn above(&self, i: u32) -> u32
+        requires { i < self.now.width * self.now.rows }
+        ensures { result ≡ above (held self.now.weighing.now.paper.now).numbers i }
+    {
+        let size = self.width * self.rows;
+        let above = i + self.width;
+        if above < size { above } else { above - size }
+    }
+
+    // Cell i meets the one above it.
+    fn meet_above(&self, i: u32) -> Result<(), DocketFault>
+        requires { i < self.now.width * self.now.rows }
+        ensures { result
+            ≡ meets_above (P.meaning self.now.weighing.now.pile.now) (held self.now.weighing.now.paper.now).numbers i }
+    {
+        let low = self.weighing.edge_at(2 + i);
+        let high = self.weighing.edge_at(2 + self.above(i));
+        match (low, high) {
+            (Some((_, _, _, north)), Some((_, _, south, _))) if north == south => Ok(()),
+            _ => Err(DocketFault::ApartAbove(2 + i)),
+        }
+    }
+
+    // Row k closes.
+    fn close_row(&self, k: u32) -> Result<(), DocketFault>
+        requires { k < self.now.rows }
+        ensures { result
+            ≡ torus_row (P.meaning self.now.weighing.now.pile.now) (held self.now.weighing.now.paper.now).numbers k }
+    {
+        self.weighing.close_row(2 + k * self.width, self.width)
+    }
+
+    fn close_rows(&self) -> Result<(), DocketFault>
+        ensures { result
+            ≡ first (torus_row (P.meaning self.now.weighing.now.pile.now) (held self.now.weighing.now.paper.now).numbers)
+            self.now.rows }
+    {
+        for k in 0..self.rows {
+            self.close_row(k)?;
+        }
+        Ok(())
+    }
+
+    fn meet_rows(&self) -> Result<(), DocketFault>
+        ensures { result
+            ≡ first (meets_above (P.meaning self.now.weighing.now.pile.now) (held self.now.weighing.now.paper.now).numbers)
+            (self.now.width * self.now.rows) }
+    {
+        for i in 0..self.width * self.rows {
+            self.meet_above(i)?;
+        }
+        Ok(())
     }
 }
 
-// Whether two edges meet, one above the other.
-fn stacked(low: Option<(u32, u32, u32, u32)>, high: Option<(u32, u32, u32, u32)>) -> bool
-    ensures { result ≡ stacks low high }
-{
-    match (low, high) {
-        (Some((_, _, _, north)), Some((_, _, south, _))) => north == south,
-        _ => false,
+impl<'a, P: Transducer> Weighing<'a, P> {
+    // The rule of a torus.
+    pub(crate) fn torus(&self) -> Result<(), DocketFault>
+        ensures { result ≡ torus (P.meaning self.now.pile.now) (held self.now.paper.now).numbers }
+    {
+        let torus = Torus::new(self)?;
+        torus.close_rows()?;
+        torus.meet_rows()
     }
-}
-
-// Cell i meets the one above it.
-fn meet_above<P: Transducer>(
-    pile: &P,
-    paper: &Paper<'_>,
-    i: u32,
-    wide: u32,
-    size: u32,
-) -> Result<(), DocketFault>
-    requires is_wide { wide ≡ width (held paper.now).numbers }
-    requires is_size { size ≡ width (held paper.now).numbers * rows (held paper.now).numbers }
-    requires within { (i < size) × ((wide ≤ size) × (size < 65000000)) }
-    ensures { result ≡ meets_above (P.meaning pile.now) (held paper.now).numbers i }
-{
-    let up = cell_above(i, wide, size);
-    if !stacked(edge_at(pile, paper, 2 + i), edge_at(pile, paper, 2 + up)) {
-        return Err(DocketFault::ApartAbove(2 + i));
-    }
-    Ok(())
-}
-
-// Row k closes.
-fn close_at<P: Transducer>(
-    pile: &P,
-    paper: &Paper<'_>,
-    k: u32,
-    wide: u32,
-) -> Result<(), DocketFault>
-    requires is_wide { wide ≡ width (held paper.now).numbers }
-    requires within { (wide ≤ 8062) × (k < 8062) }
-    ensures { result ≡ torus_row (P.meaning pile.now) (held paper.now).numbers k }
-{
-    close_row(pile, paper, 2 + k * wide, wide)
-}
-
-fn close_rows<P: Transducer>(
-    pile: &P,
-    paper: &Paper<'_>,
-    wide: u32,
-    high: u32,
-) -> Result<(), DocketFault>
-    requires is_wide { wide ≡ width (held paper.now).numbers }
-    requires is_high { high ≡ rows (held paper.now).numbers }
-    requires within { (wide ≤ 8062) × (high ≤ 8062) }
-    ensures { result ≡ first (torus_row (P.meaning pile.now) (held paper.now).numbers) (rows (held paper.now).numbers) }
-{
-    for k in 0..high {
-        close_at(pile, paper, k, wide)?;
-    }
-    Ok(())
-}
-
-fn meet_rows<P: Transducer>(
-    pile: &P,
-    paper: &Paper<'_>,
-    wide: u32,
-    size: u32,
-) -> Result<(), DocketFault>
-    requires is_wide { wide ≡ width (held paper.now).numbers }
-    requires is_size { size ≡ width (held paper.now).numbers * rows (held paper.now).numbers }
-    requires within { (wide ≤ size) × (size < 65000000) }
-    ensures { result ≡ first (meets_above (P.meaning pile.now) (held paper.now).numbers) (width (held paper.now).numbers * rows (held paper.now).numbers) }
-{
-    for i in 0..size {
-        meet_above(pile, paper, i, wide, size)?;
-    }
-    Ok(())
-}
-
-// The rule of a torus.
-pub(crate) fn check_torus<P: Transducer>(pile: &P, paper: &Paper<'_>) -> Result<(), DocketFault>
-    ensures { result ≡ torus (P.meaning pile.now) (held paper.now).numbers }
-{
-    if !fair_shape(paper) {
-        return Err(DocketFault::Shape);
-    }
-    let wide = paper.number(0);
-    let high = paper.number(1);
-    close_rows(pile, paper, wide, high)?;
-    meet_rows(pile, paper, wide, wide * high)
 }

@@ -1,6 +1,6 @@
 use Rattle.std.proofs.Common.{sym, arith, rules}
 use Rattle.papers.proofs.Order.{first_none, first_more, first_exit}
-use Rattle.rules.proofs.ranks.fall_everywhere.Goals as goal
+use Rattle.rules.proofs.judging.Weighing.fall_everywhere.Goals as goal
 
 pub loop-i-init : goal.loop-i-init
 loop-i-init g c = sym (first_none _)
