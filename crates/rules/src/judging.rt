@@ -15,7 +15,7 @@ pub(crate) struct Weighing<'a, P> {
     pub(crate) paper: &'a Paper<'a>,
 }
 
-impl<'a, P: Transducer> Weighing<'a, P> {
+impl<P: Transducer> Weighing<'_, P> {
     // The claim of the paper, if it keeps the rule of its kind.
     fn claim(&self) -> Result<Claim, DocketFault>
         ensures { result ≡ weighed (P.meaning self.now.pile.now) (held self.now.paper.now) }

@@ -8,7 +8,7 @@ use crate::fault::DocketFault;
 use crate::judging::Weighing;
 use transducers::Transducer;
 
-impl<'a, P: Transducer> Weighing<'a, P> {
+impl<P: Transducer> Weighing<'_, P> {
     // The rank of a state, which is at most 65,535.
     fn rank_of(&self, state: u32) -> Result<u16, DocketFault>
         ensures { result
@@ -35,13 +35,13 @@ impl<'a, P: Transducer> Weighing<'a, P> {
     fn fall_in(&self, i: u32) -> Result<(), DocketFault>
         ensures { result ≡ slot_falls (P.meaning self.now.pile.now) (held self.now.paper.now).numbers i }
     {
-        match self.pile.slot(i) {
-            Some((from, to, _, _))
-                if from == to || self.paper.number(to) >= self.paper.number(from) => {
-                Err(DocketFault::NoFall(i))
-            }
-            _ => Ok(()),
+        let Some((from, to, _, _)) = self.pile.slot(i) else {
+            return Ok(());
+        };
+        if from == to || self.paper.number(to) >= self.paper.number(from) {
+            return Err(DocketFault::NoFall(i));
         }
+        Ok(())
     }
 
     fn fall_everywhere(&self) -> Result<(), DocketFault>

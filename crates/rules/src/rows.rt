@@ -15,7 +15,7 @@ struct Walk {
     state: u32,
 }
 
-impl<'a, P: Transducer> Weighing<'a, P> {
+impl<P: Transducer> Weighing<'_, P> {
     // The edge that the cell at a place names.
     pub(crate) fn edge_at(&self, place: u32) -> Option<(u32, u32, u32, u32)>
         ensures { result ≡ cell (P.meaning self.now.pile.now) (held self.now.paper.now).numbers place }
@@ -70,7 +70,7 @@ impl<'a, P: Transducer> Weighing<'a, P> {
         ensures { result ≡ closed_row (P.meaning self.now.pile.now) (held self.now.paper.now).numbers start width }
     {
         match self.walk_row(start, width)? {
-            Some(walk) if walk.state != walk.origin => { Err(DocketFault::Open(start + width - 1)) }
+            Some(walk) if walk.state != walk.origin => Err(DocketFault::Open(start + width - 1)),
             _ => Ok(()),
         }
     }

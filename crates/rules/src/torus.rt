@@ -106,7 +106,7 @@ impl<'a, P: Transducer> Torus<'a, P> {
     }
 }
 
-impl<'a, P: Transducer> Weighing<'a, P> {
+impl<P: Transducer> Weighing<'_, P> {
     // The rule of a torus.
     pub(crate) fn torus(&self) -> Result<(), DocketFault>
         ensures { result ≡ torus (P.meaning self.now.pile.now) (held self.now.paper.now).numbers }
