@@ -9,7 +9,7 @@ use papers::{Kind, Paper};
 use transducers::Transducer;
 
 // A paper beside the pile that it speaks of. Each rule is a method, in the file of its subject.
-#[derive(Drop)]
+#[derive_where(Clone, Copy)]
 pub(crate) struct Weighing<'a, P> {
     pub(crate) pile: &'a P,
     pub(crate) paper: &'a Paper<'a>,
@@ -17,8 +17,8 @@ pub(crate) struct Weighing<'a, P> {
 
 impl<P: Transducer> Weighing<'_, P> {
     // The claim of the paper, if it keeps the rule of its kind.
-    fn claim(&self) -> Result<Claim, DocketFault>
-        ensures { result ≡ weighed (P.meaning self.now.pile.now) (held self.now.paper.now) }
+    fn claim(self) -> Result<Claim, DocketFault>
+        ensures { result ≡ weighed (P.meaning self.entry.pile.now) (held self.entry.paper.now) }
     {
         match self.paper.kind() {
             Kind::Strip => {

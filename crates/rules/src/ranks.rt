@@ -10,19 +10,20 @@ use transducers::Transducer;
 
 impl<P: Transducer> Weighing<'_, P> {
     // The rank of a state, which is at most 65,535.
-    fn rank_of(&self, state: u32) -> Result<u16, DocketFault>
+    fn rank_of(self, state: u32) -> Result<u16, DocketFault>
         ensures { result
-            ≡ answered (rank_fits (held self.now.paper.now).numbers state)
-            (slice_index (held self.now.paper.now).numbers state) }
+            ≡ answered (rank_fits (held self.entry.paper.now).numbers state)
+            (slice_index (held self.entry.paper.now).numbers state) }
     {
         u16::try_from(self.paper.number(state)).map_err(|_| DocketFault::HighRank(state))
     }
 
     // The greatest rank.
-    fn highest_rank(&self) -> Result<u16, DocketFault>
+    fn highest_rank(self) -> Result<u16, DocketFault>
         ensures { result
-            ≡ answered (first (rank_fits (held self.now.paper.now).numbers) (length (held self.now.paper.now).numbers))
-            (height (held self.now.paper.now).numbers) }
+            ≡ answered
+            (first (rank_fits (held self.entry.paper.now).numbers) (length (held self.entry.paper.now).numbers))
+            (height (held self.entry.paper.now).numbers) }
     {
         let mut high = 0;
         for state in 0..self.paper.len() {
@@ -32,8 +33,8 @@ impl<P: Transducer> Weighing<'_, P> {
     }
 
     // The rank falls along the edge in slot i, if there is one.
-    fn fall_in(&self, i: u32) -> Result<(), DocketFault>
-        ensures { result ≡ slot_falls (P.meaning self.now.pile.now) (held self.now.paper.now).numbers i }
+    fn fall_in(self, i: u32) -> Result<(), DocketFault>
+        ensures { result ≡ slot_falls (P.meaning self.entry.pile.now) (held self.entry.paper.now).numbers i }
     {
         let Some((from, to, _, _)) = self.pile.slot(i) else {
             return Ok(());
@@ -44,10 +45,10 @@ impl<P: Transducer> Weighing<'_, P> {
         Ok(())
     }
 
-    fn fall_everywhere(&self) -> Result<(), DocketFault>
+    fn fall_everywhere(self) -> Result<(), DocketFault>
         ensures { result
-            ≡ first (slot_falls (P.meaning self.now.pile.now) (held self.now.paper.now).numbers)
-            (P.meaning self.now.pile.now).slots }
+            ≡ first (slot_falls (P.meaning self.entry.pile.now) (held self.entry.paper.now).numbers)
+            (P.meaning self.entry.pile.now).slots }
     {
         for i in 0..self.pile.slots() {
             self.fall_in(i)?;
@@ -56,10 +57,10 @@ impl<P: Transducer> Weighing<'_, P> {
     }
 
     // The rule of a ranking; it answers the height.
-    pub(crate) fn ranking(&self) -> Result<u16, DocketFault>
+    pub(crate) fn ranking(self) -> Result<u16, DocketFault>
         ensures { result
-            ≡ answered (ranking (P.meaning self.now.pile.now) (held self.now.paper.now).numbers)
-            (height (held self.now.paper.now).numbers) }
+            ≡ answered (ranking (P.meaning self.entry.pile.now) (held self.entry.paper.now).numbers)
+            (height (held self.entry.paper.now).numbers) }
     {
         if self.paper.len() != self.pile.states() {
             return Err(DocketFault::RankCount);

@@ -1,5 +1,5 @@
 // Rows of cells: walks in the transducer's graph, and closed walks.
-ghost use Rattle.std.specs.Prelude.{◌≡◌, ◌+◌, ◌-◌, ◌<◌, length, Some, Ok, Err, MatchResult};
+ghost use Rattle.std.specs.Prelude.{◌≡◌, ◌+◌, ◌<◌, Ok, Err, MatchResult};
 ghost use Rattle.papers.specs.Paper.{held};
 ghost use Rattle.rules.specs.Rows.{cell, cell_meets, closed_row, ring, row, strip};
 ghost use Rattle.rules.specs.Walks.{GoesOn, IsWalk, state_of};
@@ -17,20 +17,23 @@ struct Walk {
 
 impl<P: Transducer> Weighing<'_, P> {
     // The edge that the cell at a place names.
-    pub(crate) fn edge_at(&self, place: u32) -> Option<(u32, u32, u32, u32)>
-        ensures { result ≡ cell (P.meaning self.now.pile.now) (held self.now.paper.now).numbers place }
+    pub(crate) fn edge_at(self, place: u32) -> Option<(u32, u32, u32, u32)>
+        ensures { result ≡ cell (P.meaning self.entry.pile.now) (held self.entry.paper.now).numbers place }
     {
         self.pile.slot(self.paper.number(place))
     }
 
     // A walk with one cell more, which leaves the state that the walk is in.
-    fn step(&self, place: u32, walk: Option<Walk>) -> Result<Walk, DocketFault>
+    fn step(self, place: u32, walk: Option<Walk>) -> Result<Walk, DocketFault>
         ensures { MatchResult result
-            (GoesOn (P.meaning self.now.pile.now) (held self.now.paper.now).numbers place walk)
-            (λ f. cell_meets (cell (P.meaning self.now.pile.now) (held self.now.paper.now).numbers place)
+            (GoesOn (P.meaning self.entry.pile.now) (held self.entry.paper.now).numbers place walk)
+            (λ f. cell_meets (cell (P.meaning self.entry.pile.now) (held self.entry.paper.now).numbers place)
             (state_of walk) place ≡ Err f) }
     {
-        let (from, to, _, _) = self.edge_at(place).ok_or(DocketFault::NoEdge(place))?;
+        // `ok_or` and `?` take a strip a twentieth longer.
+        let Some((from, to, _, _)) = self.edge_at(place) else {
+            return Err(DocketFault::NoEdge(place));
+        };
         match walk {
             None => Ok(Walk {
                 origin: from,
@@ -42,12 +45,12 @@ impl<P: Transducer> Weighing<'_, P> {
     }
 
     // The walk along the row of so many cells at a place; none along no cells.
-    fn walk_row(&self, start: u32, width: u32) -> Result<Option<Walk>, DocketFault>
+    fn walk_row(self, start: u32, width: u32) -> Result<Option<Walk>, DocketFault>
         requires { start + width < 4294967296 }
         ensures { MatchResult result
-            (λ walk. (row (P.meaning self.now.pile.now) (held self.now.paper.now).numbers start width ≡ Ok tt)
-            × IsWalk (P.meaning self.now.pile.now) (held self.now.paper.now).numbers start width walk)
-            (λ f. row (P.meaning self.now.pile.now) (held self.now.paper.now).numbers start width ≡ Err f) }
+            (λ walk. (row (P.meaning self.entry.pile.now) (held self.entry.paper.now).numbers start width ≡ Ok tt)
+            × IsWalk (P.meaning self.entry.pile.now) (held self.entry.paper.now).numbers start width walk)
+            (λ f. row (P.meaning self.entry.pile.now) (held self.entry.paper.now).numbers start width ≡ Err f) }
     {
         let mut walk = None;
         for j in 0..width {
@@ -57,17 +60,18 @@ impl<P: Transducer> Weighing<'_, P> {
     }
 
     // The rule of a strip: a walk.
-    pub(crate) fn strip(&self) -> Result<(), DocketFault>
-        ensures { result ≡ strip (P.meaning self.now.pile.now) (held self.now.paper.now).numbers }
+    pub(crate) fn strip(self) -> Result<(), DocketFault>
+        ensures { result ≡ strip (P.meaning self.entry.pile.now) (held self.entry.paper.now).numbers }
     {
         self.walk_row(0, self.paper.len())?;
         Ok(())
     }
 
     // A row that closes.
-    pub(crate) fn close_row(&self, start: u32, width: u32) -> Result<(), DocketFault>
+    pub(crate) fn close_row(self, start: u32, width: u32) -> Result<(), DocketFault>
         requires { start + width < 4294967296 }
-        ensures { result ≡ closed_row (P.meaning self.now.pile.now) (held self.now.paper.now).numbers start width }
+        ensures { result
+            ≡ closed_row (P.meaning self.entry.pile.now) (held self.entry.paper.now).numbers start width }
     {
         match self.walk_row(start, width)? {
             Some(walk) if walk.state != walk.origin => Err(DocketFault::Open(start + width - 1)),
@@ -76,8 +80,8 @@ impl<P: Transducer> Weighing<'_, P> {
     }
 
     // The rule of a ring: a closed walk.
-    pub(crate) fn ring(&self) -> Result<(), DocketFault>
-        ensures { result ≡ ring (P.meaning self.now.pile.now) (held self.now.paper.now).numbers }
+    pub(crate) fn ring(self) -> Result<(), DocketFault>
+        ensures { result ≡ ring (P.meaning self.entry.pile.now) (held self.entry.paper.now).numbers }
     {
         self.close_row(0, self.paper.len())
     }

@@ -2,7 +2,8 @@
 ghost use Rattle.std.specs.Prelude.{◌≡◌, ◌+◌, ◌*◌, ◌<◌, ◌≤◌, true, false, MatchResult};
 ghost use Rattle.papers.specs.First.{first};
 ghost use Rattle.papers.specs.Paper.{held};
-ghost use Rattle.rules.specs.Torus.{above, fair_shape, fair_side, meets_above, row_start, stacks, torus, torus_row, width as width_of, rows as rows_of};
+ghost use Rattle.rules.specs.Torus.{above, fair_shape, fair_side, meets_above, torus, torus_row};
+ghost use Rattle.rules.specs.Torus.{width as width_of, rows as rows_of};
 ghost use Rattle.rules.specs.declared.fault.DocketFault.TheVariants.{Shape};
 
 use crate::fault::DocketFault;
@@ -12,11 +13,11 @@ use transducers::Transducer;
 // A torus whose width, row count and cells fit together.
 #[derive(Drop)]
 struct Torus<'a, P> {
-    weighing: &'a Weighing<'a, P>,
+    weighing: Weighing<'a, P>,
     width: u32,
     rows: u32,
-    ghost is_width: { width ≡ width_of (held weighing.now.paper.now).numbers },
-    ghost is_rows: { rows ≡ rows_of (held weighing.now.paper.now).numbers },
+    ghost is_width: { width ≡ width_of (held weighing.paper.now).numbers },
+    ghost is_rows: { rows ≡ rows_of (held weighing.paper.now).numbers },
     ghost few_columns: { width ≤ 8062 },
     ghost few_rows: { rows ≤ 8062 },
 }
@@ -28,10 +29,10 @@ fn fair_side(n: u32) -> bool
 }
 
 impl<'a, P: Transducer> Torus<'a, P> {
-    fn new(weighing: &'a Weighing<'a, P>) -> Result<Torus<'a, P>, DocketFault>
+    fn new(weighing: Weighing<'a, P>) -> Result<Torus<'a, P>, DocketFault>
         ensures { MatchResult result
-            (λ t. (t.weighing.now ≡ weighing.now) × (fair_shape (held weighing.now.paper.now).numbers ≡ true))
-            (λ f. (f ≡ Shape) × (fair_shape (held weighing.now.paper.now).numbers ≡ false)) }
+            (λ t. (t.weighing ≡ weighing.entry) × (fair_shape (held weighing.entry.paper.now).numbers ≡ true))
+            (λ f. (f ≡ Shape) × (fair_shape (held weighing.entry.paper.now).numbers ≡ false)) }
     {
         let paper = weighing.paper;
         let width = paper.number(0);
@@ -53,7 +54,7 @@ impl<'a, P: Transducer> Torus<'a, P> {
     // The cell above cell i.
     fn above(&self, i: u32) -> u32
         requires { i < self.now.width * self.now.rows }
-        ensures { result ≡ above (held self.now.weighing.now.paper.now).numbers i }
+        ensures { result ≡ above (held self.now.weighing.paper.now).numbers i }
     {
         let size = self.width * self.rows;
         let above = i + self.width;
@@ -64,7 +65,7 @@ impl<'a, P: Transducer> Torus<'a, P> {
     fn meet_above(&self, i: u32) -> Result<(), DocketFault>
         requires { i < self.now.width * self.now.rows }
         ensures { result
-            ≡ meets_above (P.meaning self.now.weighing.now.pile.now) (held self.now.weighing.now.paper.now).numbers i }
+            ≡ meets_above (P.meaning self.now.weighing.pile.now) (held self.now.weighing.paper.now).numbers i }
     {
         let low = self.weighing.edge_at(2 + i);
         let high = self.weighing.edge_at(2 + self.above(i));
@@ -78,14 +79,14 @@ impl<'a, P: Transducer> Torus<'a, P> {
     fn close_row(&self, k: u32) -> Result<(), DocketFault>
         requires { k < self.now.rows }
         ensures { result
-            ≡ torus_row (P.meaning self.now.weighing.now.pile.now) (held self.now.weighing.now.paper.now).numbers k }
+            ≡ torus_row (P.meaning self.now.weighing.pile.now) (held self.now.weighing.paper.now).numbers k }
     {
         self.weighing.close_row(2 + k * self.width, self.width)
     }
 
     fn close_rows(&self) -> Result<(), DocketFault>
         ensures { result
-            ≡ first (torus_row (P.meaning self.now.weighing.now.pile.now) (held self.now.weighing.now.paper.now).numbers)
+            ≡ first (torus_row (P.meaning self.now.weighing.pile.now) (held self.now.weighing.paper.now).numbers)
             self.now.rows }
     {
         for k in 0..self.rows {
@@ -96,7 +97,7 @@ impl<'a, P: Transducer> Torus<'a, P> {
 
     fn meet_rows(&self) -> Result<(), DocketFault>
         ensures { result
-            ≡ first (meets_above (P.meaning self.now.weighing.now.pile.now) (held self.now.weighing.now.paper.now).numbers)
+            ≡ first (meets_above (P.meaning self.now.weighing.pile.now) (held self.now.weighing.paper.now).numbers)
             (self.now.width * self.now.rows) }
     {
         for i in 0..self.width * self.rows {
@@ -108,8 +109,8 @@ impl<'a, P: Transducer> Torus<'a, P> {
 
 impl<P: Transducer> Weighing<'_, P> {
     // The rule of a torus.
-    pub(crate) fn torus(&self) -> Result<(), DocketFault>
-        ensures { result ≡ torus (P.meaning self.now.pile.now) (held self.now.paper.now).numbers }
+    pub(crate) fn torus(self) -> Result<(), DocketFault>
+        ensures { result ≡ torus (P.meaning self.entry.pile.now) (held self.entry.paper.now).numbers }
     {
         let torus = Torus::new(self)?;
         torus.close_rows()?;

@@ -1,7 +1,7 @@
 // Widths, and what a paper shows of them.
 ghost use Rattle.std.specs.Prelude.{◌≡◌};
 
-// How wide: a number of cells, or endless, which is wider than every number.
+// How wide: a number of cells, or endless, which comes last in the order, since it is wider than every number.
 #[derive(Clone, Copy, PartialEq, Eq, PartialOrd, Ord, Debug)]
 pub enum Width {
     Number(u32),

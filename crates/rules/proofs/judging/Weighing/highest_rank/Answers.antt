@@ -11,7 +11,7 @@ loop-state-init g c = (sym (first_none _), refl)
 
 pub returns-in_err-rank_of : goal.returns-in_err-rank_of
 returns-in_err-rank_of g c =
-    let xs = (held c.args.self.now.paper.now).numbers in
+    let xs = (held c.args.self.paper.now).numbers in
     let state = c.loop-state.state in
     first_exit_answered (rank_fits xs) _ (length xs) state _ _ c.from_residual.ensures.1
     (omega (arith, c.loop-state-test.true, c.len-state-end.ensures)) c.loop-state.invariant.0
@@ -19,7 +19,7 @@ returns-in_err-rank_of g c =
 
 pub loop-state-preserved : goal.loop-state-preserved
 loop-state-preserved g c =
-    let xs = (held c.args.self.now.paper.now).numbers in
+    let xs = (held c.args.self.paper.now).numbers in
     let state = c.loop-state.state in
     let told = c.in_ok-rank_of.ensures in (
       first_more (rank_fits xs) state c.loop-state.invariant.0 (passed (rank_fits xs state) (get_or xs state 0) _ told),

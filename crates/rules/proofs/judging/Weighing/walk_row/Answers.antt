@@ -11,8 +11,8 @@ loop-j-init g c = (sym (first_none _), refl)
 
 pub returns-in_err-step : goal.returns-in_err-step
 returns-in_err-step g c =
-    let m = g.P.Transducer.meaning c.args.self.now.pile.now in
-    let xs = (held c.args.self.now.paper.now).numbers in
+    let m = g.P.Transducer.meaning c.args.self.pile.now in
+    let xs = (held c.args.self.paper.now).numbers in
     let b = c.args.start in
     let inv = c.loop-j.invariant in
     let p = err_from_is_err_and c.from_residual.result c.from_residual.ensures.1 in
@@ -21,8 +21,8 @@ returns-in_err-step g c =
 
 pub loop-j-preserved : goal.loop-j-preserved
 loop-j-preserved g c =
-    let m = g.P.Transducer.meaning c.args.self.now.pile.now in
-    let xs = (held c.args.self.now.paper.now).numbers in
+    let m = g.P.Transducer.meaning c.args.self.pile.now in
+    let xs = (held c.args.self.paper.now).numbers in
     let b = c.args.start in
     let j = c.loop-j.j in
     let inv = c.loop-j.invariant in

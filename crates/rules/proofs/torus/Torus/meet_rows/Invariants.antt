@@ -6,5 +6,5 @@ use Rattle.rules.proofs.torus.Torus.meet_rows.Given as goal
 
 abbrev pub invariant-loop-i : goal.invariant-loop-i
 invariant-loop-i g l =
-    let weighing = l.self.weighing.now in
+    let weighing = l.self.weighing in
     first (meets_above (g.P.Transducer.meaning weighing.pile.now) (held weighing.paper.now).numbers) l.i ≡ Ok tt
