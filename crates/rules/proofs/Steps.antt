@@ -5,7 +5,7 @@ use Rattle.std.proofs.lemmas.Bool.{ne_eqb}
 use Rattle.std.specs.Option.{option_map}
 use Rattle.transducers.specs.Meaning.{Edge, Meaning, from, to}
 use Rattle.rules.specs.Ranks.{highest}
-use Rattle.rules.specs.Rows.{arrival, cell, cell_meets, column, origin}
+use Rattle.rules.specs.Rows.{arrival, cell, cell_meets, column}
 use Rattle.rules.specs.Walks.{GoesOn, IsWalk, longer, state_of}
 use Rattle.rules.specs.declared.fault.DocketFault.{DocketFault}
 use Rattle.rules.specs.declared.rows.Walk.{Walk}
@@ -14,13 +14,9 @@ module _ (m : Meaning) (xs : List ℕ) (b j : ℕ) where
   started : 0 < j → eqb j 0 ≡ false
   started some = ne_eqb j 0 (omega arith)
 
-  pub walk_arrival : (walk : Option Walk) → IsWalk m xs b j walk → arrival m xs b j ≡ state_of walk
+  walk_arrival : (walk : Option Walk) → IsWalk m xs b j walk → arrival m xs b j ≡ state_of walk
   walk_arrival None none = rw none refl
   walk_arrival (Some w) h = rw (started h.0) h.2
-
-  pub walk_origin : (walk : Option Walk) → IsWalk m xs b j walk → origin m xs b j ≡ option_map (λ w. w.origin) walk
-  walk_origin None none = rw none refl
-  walk_origin (Some w) h = rw (started h.0) h.1
 
   here : b + (j + 1) - 1 ≡ b + j
   here = omega arith

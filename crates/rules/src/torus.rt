@@ -10,7 +10,7 @@ use crate::fault::DocketFault;
 use crate::judging::Weighing;
 use transducers::Transducer;
 
-// A torus whose width, row count and cells fit together.
+// A torus of a fair shape: so many rows of one width.
 #[derive(Drop)]
 struct Torus<'a, P> {
     weighing: Weighing<'a, P>,
@@ -29,6 +29,7 @@ fn fair_side(n: u32) -> bool
 }
 
 impl<'a, P: Transducer> Torus<'a, P> {
+    // The torus of a paper, if its width, row count and cells fit together.
     fn new(weighing: Weighing<'a, P>) -> Result<Torus<'a, P>, DocketFault>
         ensures { MatchResult result
             (λ t. (t.weighing ≡ weighing.entry) × (fair_shape (held weighing.entry.paper.now).numbers ≡ true))
@@ -37,18 +38,19 @@ impl<'a, P: Transducer> Torus<'a, P> {
         let paper = weighing.paper;
         let width = paper.number(0);
         let rows = paper.number(1);
-        if paper.len() < 3
-            || !fair_side(width)
-            || !fair_side(rows)
-            || paper.len() != 2 + width * rows
+        if paper.len() >= 3
+            && fair_side(width)
+            && fair_side(rows)
+            && paper.len() == 2 + width * rows
         {
-            return Err(DocketFault::Shape);
+            Ok(Torus {
+                weighing,
+                width,
+                rows,
+            })
+        } else {
+            Err(DocketFault::Shape)
         }
-        Ok(Torus {
-            weighing,
-            width,
-            rows,
-        })
     }
 
     // The cell above cell i.

@@ -1,7 +1,8 @@
 // Widths, and what a paper shows of them.
 ghost use Rattle.std.specs.Prelude.{◌≡◌};
 
-// How wide: a number of cells, or endless, which comes last in the order, since it is wider than every number.
+// How wide: a number of cells, or endless, which is wider than every number and so comes last in the order.
+// As an `Option`, endless would come first.
 #[derive(Clone, Copy, PartialEq, Eq, PartialOrd, Ord, Debug)]
 pub enum Width {
     Number(u32),
@@ -15,7 +16,7 @@ pub struct Ends {
     pub ceiling: Width,
 }
 
-// What an accepted paper shows: a width that is reached, or one that none passes.
+// What an accepted paper shows: a width that is reached, or one that none passes. Neither is an error, as in a `Result`.
 #[derive(Clone, Copy, PartialEq, Eq, Debug)]
 pub enum Claim {
     Reaches(Width),
