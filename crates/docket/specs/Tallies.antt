@@ -52,8 +52,3 @@ tallied_contents ts m (Err f) = tallied ts Unread false
 -- the tallies after bytes were filed as a paper
 abbrev pub tallies_after : List Tally → Meaning → List ℕ → List Tally
 tallies_after ts m bs = tallied_contents ts m (contents_of bs)
-
--- the tallies after reading alone
-abbrev pub reading_tallies : List Tally → Result Contents PaperFault → List Tally
-reading_tallies ts (Ok c) = ts
-reading_tallies ts (Err f) = tallied ts Unread false
