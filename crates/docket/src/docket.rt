@@ -8,7 +8,7 @@ ghost use Rattle.rules.specs.Widths.{fresh_ends};
 
 use crate::tally::Tallies;
 use papers::read_paper;
-use rules::{DocketFault, Ends, Subject, Width, weigh};
+use rules::{DocketFault, Ends, Width, weigh};
 use transducers::Transducer;
 
 mod asking;
@@ -53,12 +53,12 @@ impl<P: Transducer> Docket<P> {
         let paper = match read_paper(paper) {
             Ok(paper) => paper,
             Err(fault) => {
-                self.tallies.count(Subject::Unread, false);
+                self.tallies.count(None, false);
                 return Err(fault.into());
             }
         };
         let claim = weigh(&self.pile, &paper);
-        self.tallies.count(Subject::Of(paper.kind()), claim.is_ok());
+        self.tallies.count(Some(paper.kind()), claim.is_ok());
         self.ends = self.ends.after(claim?);
         Ok(self.ends)
     }

@@ -1,12 +1,11 @@
 // How many papers were accepted and turned down.
-ghost use Rattle.std.specs.Prelude.{◌≡◌, ◌<◌};
-ghost use Rattle.docket.specs.Tallies.{counted, entry_of, kind_entry, no_tallies, tallied, tally_in};
+ghost use Rattle.std.specs.Prelude.{◌≡◌};
+ghost use Rattle.docket.specs.Tallies.{counted, entry_of, no_tallies, tallied, tally_in};
 
 use papers::Kind;
-use rules::Subject;
 
 // Each count stops at 65,535.
-#[derive(Clone, Copy)]
+#[derive(Clone, Copy, Default, PartialEq, Eq, Debug)]
 pub struct Tally {
     pub accepted: u16,
     pub refused: u16,
@@ -25,23 +24,22 @@ impl Tally {
     }
 }
 
-// A record for each kind, and one for papers that could not be read.
-#[derive(Clone, Copy)]
+// A record for each kind, and the last for papers that could not be read.
+#[derive(Clone, Copy, Default)]
 pub(crate) struct Tallies {
     table: [Tally; 5],
 }
 
-// The place of a subject's record in the table.
-fn entry(subject: Subject) -> usize
-    ensures value { result ≡ entry_of subject }
-    ensures bound { result < 5 }
+// The place in the table of the record of a kind, or of none.
+fn entry(kind: Option<Kind>) -> usize
+    ensures { result ≡ entry_of kind }
 {
-    match subject {
-        Subject::Of(Kind::Strip) => 0,
-        Subject::Of(Kind::Ring) => 1,
-        Subject::Of(Kind::Ranking) => 2,
-        Subject::Of(Kind::Torus) => 3,
-        Subject::Unread => 4,
+    match kind {
+        Some(Kind::Strip) => 0,
+        Some(Kind::Ring) => 1,
+        Some(Kind::Ranking) => 2,
+        Some(Kind::Torus) => 3,
+        None => 4,
     }
 }
 
@@ -49,24 +47,19 @@ impl Tallies {
     pub(crate) fn new() -> Tallies
         ensures { result.table ≡ no_tallies }
     {
-        let none = Tally {
-            accepted: 0,
-            refused: 0,
-        };
-        Tallies { table: [none; 5] }
+        Tallies::default()
     }
 
-    pub(crate) fn of(&self, subject: Subject) -> Tally
-        ensures { result ≡ tally_in self.now.table subject }
+    pub(crate) fn of(&self, kind: Option<Kind>) -> Tally
+        ensures { result ≡ tally_in self.now.table kind }
     {
-        self.table[entry(subject)]
+        self.table[entry(kind)]
     }
 
-    // One paper more under a subject.
-    pub(crate) fn count(&mut self, subject: Subject, accepted: bool)
-        ensures { self.new.table ≡ tallied self.old.table subject accepted }
+    // One paper more under a kind, or under none.
+    pub(crate) fn count(&mut self, kind: Option<Kind>, accepted: bool)
+        ensures { self.new.table ≡ tallied self.old.table kind accepted }
     {
-        let i = entry(subject);
-        self.table[i].count(accepted);
+        self.table[entry(kind)].count(accepted);
     }
 }

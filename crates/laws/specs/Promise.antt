@@ -1,30 +1,30 @@
 -- The promise of the two widths: what holds of a docket over a transducer after every list of calls. Assumes nothing.
-use Rattle.std.specs.Prelude.{◌≡◌, ℕ, ◌<◌, ◌≤◌, ◌⊎◌, ◌↔◌, List, [], ◌∷◌, Ok}
+use Rattle.std.specs.Prelude.{◌≡◌, ℕ, ◌<◌, ◌≤◌, ◌⊎◌, ◌↔◌, List, [], ◌∷◌, Ok, Option}
 use Rattle.papers.specs.Bytes.{Bytes}
 use Rattle.papers.specs.Paper.{Contents, contents_of}
+use Rattle.papers.specs.declared.kind.Kind.{Kind}
 use Rattle.papers.specs.declared.kind.Kind.TheVariants.{Torus}
 use Rattle.transducers.specs.Meaning.{Meaning, Valid}
 use Rattle.transducers.specs.Stacking.{Copies}
 use Rattle.rules.specs.Filing.{ends_after, judged}
 use Rattle.laws.specs.Walking.{HasStrip}
 use Rattle.rules.specs.Widths.{fresh_ends}
-use Rattle.rules.specs.declared.subject.Subject.{Subject}
 use Rattle.rules.specs.declared.width.Claim.{Claim}
 use Rattle.rules.specs.declared.width.Ends.{Ends}
 use Rattle.rules.specs.declared.width.Width.{Width}
 use Rattle.rules.specs.declared.width.Width.TheVariants.{Number, Endless}
 
--- what may be done with an open docket
+-- what may be done with an open docket; the tally of none is that of papers that could not be read
 pub data Call : Type 0 where
   files : (bs : List ℕ) → Bytes bs → Call
   asks_ends : Call
-  asks_tally : Subject → Call
+  asks_tally : Option Kind → Call
 
 -- the ends after one call, and after a list of calls
 abbrev pub after_call : Meaning → Ends → Call → Ends
 after_call m e (files bs bytes) = ends_after e (judged m bs)
 after_call m e asks_ends = e
-after_call m e (asks_tally s) = e
+after_call m e (asks_tally k) = e
 
 abbrev pub after_calls : Meaning → Ends → List Call → Ends
 after_calls m e [] = e
@@ -55,7 +55,7 @@ TakesTorus m [] = ⊥
 TakesTorus m (files bs bytes ∷ cs) =
     ((c : Contents) × (a : Claim) × (contents_of bs ≡ Ok c) × (c.kind ≡ Torus) × (judged m bs ≡ Ok a)) ⊎ TakesTorus m cs
 TakesTorus m (asks_ends ∷ cs) = TakesTorus m cs
-TakesTorus m (asks_tally s ∷ cs) = TakesTorus m cs
+TakesTorus m (asks_tally k ∷ cs) = TakesTorus m cs
 
 -- what holds of these ends of a docket over m
 pub record Holds (m : Meaning) (e : Ends) : Type 0 where

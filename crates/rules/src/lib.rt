@@ -6,11 +6,9 @@ mod judging;
 mod ranks;
 mod rows;
 mod shown;
-mod subject;
 mod torus;
 mod width;
 
 pub use fault::DocketFault;
 pub use judging::weigh;
-pub use subject::Subject;
 pub use width::{Claim, Ends, Width};

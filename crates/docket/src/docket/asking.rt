@@ -4,7 +4,8 @@ ghost use Rattle.docket.specs.Tallies.{tally_in};
 
 use crate::docket::Docket;
 use crate::tally::Tally;
-use rules::{Ends, Subject};
+use papers::Kind;
+use rules::Ends;
 use transducers::Transducer;
 
 impl<P: Transducer> Docket<P> {
@@ -15,10 +16,10 @@ impl<P: Transducer> Docket<P> {
         self.ends
     }
 
-    // How many papers of a subject were accepted and turned down.
-    pub fn tally(&self, subject: Subject) -> Tally
-        ensures { result ≡ tally_in self.now.tallies.table subject }
+    // How many papers of a kind were accepted and turned down; under none, those that could not be read.
+    pub fn tally(&self, kind: Option<Kind>) -> Tally
+        ensures { result ≡ tally_in self.now.tallies.table kind }
     {
-        self.tallies.of(subject)
+        self.tallies.of(kind)
     }
 }

@@ -7,7 +7,8 @@ ghost use Rattle.piles.specs.SetDockets.{docket_ends, docket_meaning, docket_tal
 
 use crate::set_docket::SetDocket;
 use docket::Tally;
-use rules::{DocketFault, Ends, Subject};
+use papers::Kind;
+use rules::{DocketFault, Ends};
 
 impl SetDocket {
     // Files a paper: it is accepted and may move a width, or turned down with its first fault.
@@ -34,13 +35,13 @@ impl SetDocket {
         }
     }
 
-    // How many papers of a subject were accepted and turned down.
-    pub fn tally(&self, subject: Subject) -> Tally
-        ensures { result ≡ tally_in (docket_tallies self.now) subject }
+    // How many papers of a kind were accepted and turned down; under none, those that could not be read.
+    pub fn tally(&self, kind: Option<Kind>) -> Tally
+        ensures { result ≡ tally_in (docket_tallies self.now) kind }
     {
         match self {
-            SetDocket::Tiles(docket) => docket.tally(subject),
-            SetDocket::Row(docket) => docket.tally(subject),
+            SetDocket::Tiles(docket) => docket.tally(kind),
+            SetDocket::Row(docket) => docket.tally(kind),
         }
     }
 }
