@@ -22,7 +22,8 @@ pub struct Docket<P> {
 }
 
 impl<P: Transducer> Docket<P> {
-    // A new docket: floor 0, ceiling endless, no papers. It promises of every list of calls that follows what the two widths then mean.
+    // A new docket: floor 0, ceiling endless, no papers. It promises of every list of calls that follows what the two
+    // widths then mean.
     #[tactic(auto, using(laws::proofs::Holding::promise))]
     pub fn open(pile: P) -> Docket<P>
         ensures pile { result.pile ≡ pile }
@@ -46,7 +47,8 @@ impl<P: Transducer> Docket<P> {
         ensures answer { result ≡ filing_answer self.old.ends (judged (P.meaning self.old.pile) paper.now) }
         ensures pile { self.new.pile ≡ self.old.pile }
         ensures ends { self.new.ends ≡ ends_after self.old.ends (judged (P.meaning self.old.pile) paper.now) }
-        ensures tallies { self.new.tallies.table ≡ tallies_after self.old.tallies.table (P.meaning self.old.pile) paper.now }
+        ensures tallies { self.new.tallies.table
+            ≡ tallies_after self.old.tallies.table (P.meaning self.old.pile) paper.now }
         ensures law { FilingLaw (P.meaning self.old.pile) paper.now (judged (P.meaning self.old.pile) paper.now) }
     {
         // a match, as `inspect_err` does not say that on `Ok` its closure is not called

@@ -1,4 +1,5 @@
 pub mod PileFaults
+pub mod PileKinds
 pub mod Piles
 pub mod SetDockets
 pub mod PilesKept

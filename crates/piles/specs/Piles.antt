@@ -1,5 +1,5 @@
 -- The six piles. Assumes nothing.
-use Rattle.std.specs.Prelude.{◌≡◌, ℕ, ◌≤◌, cond, ◌⊎◌, Some, None, Option, ◌==◌}
+use Rattle.std.specs.Prelude.{◌≡◌, ◌≤◌, ◌⊎◌}
 use Rattle.transducers.specs.Held.{StackRefused, stack_held}
 use Rattle.transducers.specs.Meaning.{Meaning}
 use Rattle.transducers.specs.Stacking.{stack}
@@ -7,20 +7,10 @@ use Rattle.trimming.specs.Trimming.{Largest, States, kept_set, trim}
 use Rattle.transducers.specs.Turning.{turn}
 use Rattle.piles.specs.declared.pile.Pile.{Pile}
 use Rattle.piles.specs.declared.pile.Pile.TheVariants as pile
-use Rattle.piles.specs.declared.pile.PileKind.{PileKind}
-use Rattle.piles.specs.declared.pile.PileKind.TheVariants.{FourHigh, Plain, Trimmed, TrimmedTwoHigh, Turned, TwoHigh}
+use Rattle.piles.specs.declared.pile_kind.PileKind.{PileKind}
+use Rattle.piles.specs.declared.pile_kind.PileKind.TheVariants.{FourHigh, Plain, Trimmed, TrimmedTwoHigh, Turned, TwoHigh}
 use Rattle.piles.specs.declared.pile_fault.PileFault.{PileFault}
 use Rattle.piles.specs.declared.pile_fault.PileFault.TheVariants as fault
-
--- the pile that a number names: 1 the set, 2 turned, 3 two high, 4 trimmed, 5 two high and then trimmed, 6 two of pile 3 stacked
-abbrev pub numbered_pile : ℕ → Option PileKind
-numbered_pile n =
-    cond (n == 1) (Some Plain)
-    (cond (n == 2) (Some Turned)
-    (cond (n == 3) (Some TwoHigh)
-    (cond (n == 4) (Some Trimmed)
-    (cond (n == 5) (Some TrimmedTwoHigh)
-    (cond (n == 6) (Some FourHigh) None)))))
 
 -- what a pile means, by what its bottoms mean
 abbrev pub pile_meaning : {B : Type 0} → (B → Meaning) → Pile B → Meaning

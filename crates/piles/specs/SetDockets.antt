@@ -13,8 +13,9 @@ use Rattle.rules.specs.Widths.{fresh_ends}
 use Rattle.rules.specs.declared.width.Ends.{Ends}
 use Rattle.setgrammar.specs.declared.set.SetText.{SetText}
 use Rattle.bottoms.specs.declared.tile.Tile.{Tile}
-use Rattle.piles.specs.Piles.{FirstRefused, PileOf, numbered_pile, pile_meaning}
-use Rattle.piles.specs.declared.pile.PileKind.{PileKind}
+use Rattle.piles.specs.Piles.{FirstRefused, PileOf, pile_meaning}
+use Rattle.piles.specs.PileKinds.{numbered_pile}
+use Rattle.piles.specs.declared.pile_kind.PileKind.{PileKind}
 use Rattle.piles.specs.declared.pile_fault.PileFault.{PileFault}
 use Rattle.piles.specs.declared.pile_fault.PileFault.TheVariants as fault
 use Rattle.piles.specs.declared.set_docket.SetDocket.{SetDocket}

@@ -3,9 +3,10 @@
 
 mod pile;
 mod pile_fault;
+mod pile_kind;
 mod set_docket;
 
-pub use pile::making::make_pile;
-pub use pile::{Pile, PileKind};
+pub use pile::{Pile, make_pile};
 pub use pile_fault::PileFault;
+pub use pile_kind::{PileKind, UnknownPile};
 pub use set_docket::SetDocket;

@@ -1,14 +1,16 @@
 // Why a pile is not made.
 ghost use Rattle.std.specs.Prelude.{◌≡◌};
 ghost use Rattle.piles.specs.PileFaults.{of_list, pile_fault_number};
-ghost use Rattle.piles.specs.declared.pile_fault.PileFault.TheVariants.{Memory, Row, Stack};
+ghost use Rattle.piles.specs.declared.pile_fault.PileFault.TheVariants.{List, Memory, Row, Stack};
 
+use crate::pile_kind::UnknownPile;
 use bottoms::{ListFault, RowFault};
 use std::alloc::AllocError;
 use transducers::StackFault;
 
-// The list of tiles, the catalogue row or a stack is refused, or there is no memory.
-#[derive(Clone, Copy)]
+// The list of tiles, the catalogue row or a stack is refused, or there is no memory. A number that names no pile is
+// refused as a list.
+#[derive(Clone, Copy, PartialEq, Eq, Debug)]
 pub enum PileFault {
     List,
     Row,
@@ -63,5 +65,13 @@ impl From<ListFault> for PileFault {
             ListFault::Length => Self::List,
             ListFault::Memory => Self::Memory,
         }
+    }
+}
+
+impl From<UnknownPile> for PileFault {
+    ghost from_gives = { λ _ r. r ≡ List };
+
+    fn from(_fault: UnknownPile) -> PileFault {
+        Self::List
     }
 }

@@ -1,5 +1,5 @@
 use Rattle.piles.specs.PilesKept.{four_is}
-use Rattle.piles.proofs.pile.making.four_high.Goals as goal
+use Rattle.piles.proofs.pile.four_high.Goals as goal
 
 pub returns-clause-made : goal.returns-clause-made
 returns-clause-made g c =
