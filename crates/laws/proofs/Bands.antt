@@ -32,7 +32,7 @@ pub record Tidy (m : Meaning) : Type 0 where
 
 low_edge : (n : ℕ) (o p : Option Edge) (e : Edge) → both_edges n o p ≡ Some e → (d : Edge) × (o ≡ Some d)
 low_edge n (Some d) p e is = (d, refl)
-low_edge n None p e is = let z : ◌≡◌ {A = ℕ} 0 1 = cc in absurd (omega arith)
+low_edge n None p e is = absurd (cc)
 
 stack_tidy : (l u : Meaning) → Tidy l → Tidy u → Tidy (stack l u)
 stack_tidy l u lt ut = record {

@@ -24,7 +24,7 @@ module _ (m : Meaning) (P : ℕ → Type 0) (known : (q : ℕ) → Known (P q)) 
   known_edge e at (inr not) holds = inr (λ t. let same : t.0 ≡ e = cc in not (rw (← same) t.2))
 
   known_slot : (o : Option Edge) → m.edge i ≡ o → Known (Through m P p i)
-  known_slot None nothing = inr (λ t. let z : ◌≡◌ {A = ℕ} 0 1 = cc in omega arith)
+  known_slot None nothing = inr (λ t. cc)
   known_slot (Some e) at = known_edge e at (cases_eq (from e) p) (known (to e))
 
 known_leaves : (m : Meaning) → Valid m → (k p : ℕ) → Known (Leaves m k p)

@@ -196,7 +196,7 @@ module _ (m : Meaning) (v : Valid m) where
     ceiling_low (Number a) same =
         let least : min a (height ranks) ≡ a = cc in
         (a, refl, omega (arith, height_below))
-    ceiling_low Endless same = let z : ◌≡◌ {A = ℕ} 0 1 = cc in absurd (omega arith)
+    ceiling_low Endless same = absurd (cc)
 
     floor_high : (f : Width) → ReachesFloor m f → (1 ≤ k.top → wider f (Number k.top) ≡ f) → (a : ℕ) × (f ≡ Number a) × (k.top ≤ a)
     floor_high (Number a) reach still =

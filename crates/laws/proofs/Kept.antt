@@ -61,7 +61,7 @@ module _ (m : Meaning) (v : Valid m) where
       let same = answer_of _ (shows c.kind c.numbers) a (sym told) in
       let sizes = some_numbers bs c is in
       subst (Sound m) (sym same) (kind_sound c.kind c.numbers sizes.0 sizes.1 pass)
-  contents_sound bs (Err f) is a told = let z : ◌≡◌ {A = ℕ} 0 1 = cc in absurd (omega arith)
+  contents_sound bs (Err f) is a told = absurd (cc)
 
   -- what an accepted paper shows is so
   pub judged_sound : (bs : List ℕ) (a : Claim) → judged m bs ≡ Ok a → Sound m a

@@ -23,8 +23,7 @@ edge_slot {m} valid i e at =
       | inl lt ↦ lt
       | inr ge ↦
           let nothing = valid.beyond i ge in
-          let z : ◌≡◌ {A = ℕ} 0 1 = cc in
-          absurd (omega arith)
+          absurd (cc)
     ]
 
 pub walk_slots : {m : Meaning} {is : List ℕ} {p q : ℕ} → Valid m → Walk m is p q → AllByRecursion (λ i. i < m.slots) is

@@ -15,7 +15,7 @@ use Rattle.laws.proofs.Verdicts.{Says, fail_says, first_says, last_says, must_sa
 
 -- a slot does not hold both an edge and none
 pub no_edge : (m : Meaning) (i : ℕ) (e : Edge) → m.edge i ≡ None → m.edge i ≡ Some e → ⊥
-no_edge m i e none some = let z : ◌≡◌ {A = ℕ} 0 1 = cc in omega arith
+no_edge m i e none some = cc
 
 module _ (m : Meaning) (xs : List ℕ) (b j : ℕ) where
   -- an edge meets the one before it, if there is one; or there is one that it does not meet

@@ -16,14 +16,14 @@ part b w xs = take w (drop b xs)
 
 pub must_true : {F : Type 0} (b : Bool) (f : F) → must b f ≡ Ok tt → b ≡ true
 must_true true f e = refl
-must_true false f e = let z : ◌≡◌ {A = ℕ} 0 1 = cc in absurd (omega arith)
+must_true false f e = absurd (cc)
 
 pub true_must : {F : Type 0} (b : Bool) (f : F) → b ≡ true → must b f ≡ Ok tt
 true_must b f e = rw e refl
 
 -- a cell passes where it names an edge that meets
 cell_passes : (o : Option Edge) (s : Option ℕ) (p : ℕ) → cell_meets o s p ≡ Ok tt → (e : Edge) × (o ≡ Some e) × (leaves s e ≡ true)
-cell_passes None s p pass = let z : ◌≡◌ {A = ℕ} 0 1 = cc in absurd (omega arith)
+cell_passes None s p pass = absurd (cc)
 cell_passes (Some e) s p pass = (e, refl, must_true (leaves s e) _ pass)
 
 passes_cell : (o : Option Edge) (s : Option ℕ) (p : ℕ) (e : Edge) → o ≡ Some e → leaves s e ≡ true → cell_meets o s p ≡ Ok tt

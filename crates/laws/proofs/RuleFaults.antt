@@ -72,7 +72,7 @@ module _ (m : Meaning) (xs : List ℕ) where
       closed_row_says m xs (row_start xs y) (width xs) (omega (arith, s.all_cells)) s.some_column
 
   under_says : (i : ℕ) → Says (meets_above m xs i) (CellUnder m xs i) (UnderFault m xs i)
-  under_says i = decided_says _ (ApartAbove (2 + i)) (under_decides m _ _ _ _ refl refl)
+  under_says i = decided_says _ (ApartAbove (2 + i)) (under_decides m _ _)
 
   torus_says : length xs ≤ 8064 → Says (torus m xs) (TorusOn m xs) (TorusFault m xs)
   torus_says few = record {

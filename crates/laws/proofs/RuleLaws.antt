@@ -26,7 +26,7 @@ module _ (m : Meaning) (xs : List ℕ) where
 
   -- an edge's rank falls
   falls_of : (o : Option Edge) (i : ℕ) → edge_falls xs o i ≡ Ok tt → (e : Edge) → o ≡ Some e → get_or xs (to e) 0 < get_or xs (from e) 0
-  falls_of None i pass e is = let z : ◌≡◌ {A = ℕ} 0 1 = cc in absurd (omega arith)
+  falls_of None i pass e is = absurd (cc)
   falls_of (Some d) i pass e is =
       let same : d ≡ e = cc in
       let fall = (both_pass (must (not (eqb (from d) (to d))) _) _ pass).1 in

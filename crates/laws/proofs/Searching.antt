@@ -1,5 +1,5 @@
 -- Searches among the numbers below a bound: for one of a kind, for the greatest of a kind, for where a function is greatest, and for two at which it is the same. Assumes nothing.
-use Rattle.std.proofs.Common.{◌≡◌, ℕ, zero, suc, ◌<◌, ◌≤◌, cond, eqb, ◌⊎◌, subst, inl, inr, arith}
+use Rattle.std.proofs.Common.{◌≡◌, ℕ, zero, suc, ◌<◌, ◌≤◌, cond, eqb, ◌⊎◌, inl, inr, arith, below_more}
 use Rattle.std.proofs.lemmas.Bool.{cases_eq, cases_lt}
 use Rattle.std.proofs.lemmas.Bool.Decides.{nat_tests}
 
@@ -9,11 +9,7 @@ Known P = P ⊎ (P → ⊥)
 
 module _ (P : ℕ → Type 0) where
   pub below_suc : (n : ℕ) → ((k : ℕ) → k < n → P k) → P n → (k : ℕ) → k < suc n → P k
-  below_suc n below here k lt =
-      elim (cases_lt k n) [
-        | inl less ↦ below k less
-        | inr past ↦ let same : n ≡ k = omega arith in subst P same here
-      ]
+  below_suc n below here k lt = below_more P n below here k (omega arith)
 
   -- one below n of which P holds
   abbrev pub Found : ℕ → Type 0

@@ -1,5 +1,5 @@
 -- The tests of a torus pass exactly where it is one. Assumes nothing.
-use Rattle.std.proofs.Common.{◌≡◌, ℕ, ◌+◌, ◌-◌, ◌*◌, ◌/◌, ◌%◌, ◌<◌, ◌≤◌, true, ◌↔◌, List, length, get_or, Ok, sym, refl, ap, ◌∙◌, subst, inl, inr, mul_comm, add-mul, one-mul, zero-mul, arith}
+use Rattle.std.proofs.Common.{◌≡◌, ℕ, ◌+◌, ◌-◌, ◌*◌, ◌/◌, ◌%◌, ◌<◌, ◌≤◌, ◌↔◌, List, length, get_or, Ok, Decides, sym, ap, ◌∙◌, subst, inl, inr, mul_comm, add-mul, one-mul, zero-mul, arith}
 use Rattle.std.proofs.lemmas.Nat.{div-add-mod', div_below, mod_below, mul-add-lt}
 use Rattle.std.proofs.lemmas.Bool.{cases_lt, le-ltb, lt-ltb}
 use Rattle.papers.specs.First.{must, first}
@@ -40,6 +40,13 @@ above_cell xs x y column within =
     r = rows xs
 
 module _ (m : Meaning) (xs : List ℕ) where
+  -- the test of the cell in column x of row y, and the one above it
+  under_at : (x y : ℕ) → x < width xs → y < rows xs → Decides (stacks (cell m xs (2 + (y * width xs + x))) (cell m xs (2 + above xs (y * width xs + x)))) (Under m (get_or xs (2 + y * width xs + x) 0) (get_or xs (2 + next_row (rows xs) y * width xs + x) 0))
+  under_at x y column within =
+      let low : 2 + (y * width xs + x) ≡ 2 + y * width xs + x = omega arith in
+      let high : 2 + above xs (y * width xs + x) ≡ 2 + next_row (rows xs) y * width xs + x = omega (arith, above_cell xs x y column within) in
+      rw (high, low) (under_decides m _ _)
+
   torus_passes : torus m xs ≡ Ok tt → TorusOn m xs
   torus_passes pass =
       let a = both_pass (must (fair_shape xs) _) _ pass in
@@ -57,16 +64,8 @@ module _ (m : Meaning) (xs : List ℕ) where
             let i : ℕ = y * width xs + x in
             let inside : i < width xs * rows xs = mul-add-lt y (width xs) x (rows xs) within column in
             let test = (first_passes (meets_above m xs) (width xs * rows xs)).0 b.1 i inside in
-            stacked_at x y column within (must_true _ _ test);
+            (under_at x y column within).0 (must_true _ _ test);
       }
-    where
-      stacked_at : (x y : ℕ) → x < width xs → y < rows xs → stacks (cell m xs (2 + (y * width xs + x))) (cell m xs (2 + above xs (y * width xs + x))) ≡ true → Under m (get_or xs (2 + y * width xs + x) 0) (get_or xs (2 + next_row (rows xs) y * width xs + x) 0)
-      stacked_at x y column within test =
-          let low : 2 + (y * width xs + x) ≡ 2 + y * width xs + x = omega arith in
-          let high : 2 + above xs (y * width xs + x) ≡ 2 + next_row (rows xs) y * width xs + x = omega (arith, above_cell xs x y column within) in
-          (under_decides m _ _ _ _ refl refl).0
-          (subst (λ p. stacks (cell m xs p) (cell m xs (2 + next_row (rows xs) y * width xs + x)) ≡ true) low
-          (subst (λ p. stacks (cell m xs (2 + (y * width xs + x))) (cell m xs p) ≡ true) high test))
 
   module _ (t : TorusOn m xs) where
     row_passes : (y : ℕ) → y < rows xs → torus_row m xs y ≡ Ok tt
@@ -75,10 +74,7 @@ module _ (m : Meaning) (xs : List ℕ) where
         (closed_law m xs (2 + y * width xs) (width xs) (omega (arith, t.cells)) t.some_column).1 (t.closed y within)
 
     meet_at : (x y : ℕ) → x < width xs → y < rows xs → meets_above m xs (y * width xs + x) ≡ Ok tt
-    meet_at x y column within =
-        let low : 2 + (y * width xs + x) ≡ 2 + y * width xs + x = omega arith in
-        let high : 2 + above xs (y * width xs + x) ≡ 2 + next_row (rows xs) y * width xs + x = omega (arith, above_cell xs x y column within) in
-        true_must _ _ (rw (high, low) ((under_decides m _ _ _ _ refl refl).1 (t.stacked x y column within)))
+    meet_at x y column within = true_must _ _ ((under_at x y column within).1 (t.stacked x y column within))
 
     meet_passes : (i : ℕ) → i < width xs * rows xs → meets_above m xs i ≡ Ok tt
     meet_passes i inside =
