@@ -1,1 +1,2 @@
+pub mod Dockets
 pub mod Tallies

@@ -22,13 +22,14 @@ pub struct Docket<P> {
 }
 
 impl<P: Transducer> Docket<P> {
+    ghost use Rattle.docket.specs.Dockets.{ends_of, pile_of, tallies_of};
+
     // A new docket: floor 0, ceiling endless, no papers. It promises of every list of calls that follows what the two
     // widths then mean.
-    #[tactic(auto, using(laws::proofs::Holding::promise))]
     pub fn open(pile: P) -> Docket<P>
-        ensures pile { result.pile ≡ pile }
-        ensures ends { result.ends ≡ fresh_ends }
-        ensures tallies { result.tallies.table ≡ no_tallies }
+        ensures pile { pile_of result ≡ pile }
+        ensures ends { ends_of result ≡ fresh_ends }
+        ensures tallies { tallies_of result ≡ no_tallies }
         ensures promise { Promise (P.meaning pile) }
     {
         Docket {
@@ -37,19 +38,20 @@ impl<P: Transducer> Docket<P> {
                 floor: Width::Number(0),
                 ceiling: Width::Endless,
             },
-            tallies: Tallies::new(),
+            tallies: Tallies::default(),
         }
     }
 
     // Files a paper: it is accepted and may move a width, or turned down with its first fault.
-    #[tactic(auto, using(laws::proofs::Refusing::filing_keeps_law))]
     pub fn file(&mut self, paper: &[u8]) -> Result<Ends, DocketFault>
-        ensures answer { result ≡ filing_answer self.old.ends (judged (P.meaning self.old.pile) paper.now) }
-        ensures pile { self.new.pile ≡ self.old.pile }
-        ensures ends { self.new.ends ≡ ends_after self.old.ends (judged (P.meaning self.old.pile) paper.now) }
-        ensures tallies { self.new.tallies.table
-            ≡ tallies_after self.old.tallies.table (P.meaning self.old.pile) paper.now }
-        ensures law { FilingLaw (P.meaning self.old.pile) paper.now (judged (P.meaning self.old.pile) paper.now) }
+        ensures answer { result ≡ filing_answer (ends_of self.old) (judged (P.meaning (pile_of self.old)) paper.now) }
+        ensures pile { pile_of self.new ≡ pile_of self.old }
+        ensures ends { ends_of self.new
+            ≡ ends_after (ends_of self.old) (judged (P.meaning (pile_of self.old)) paper.now) }
+        ensures tallies { tallies_of self.new
+            ≡ tallies_after (tallies_of self.old) (P.meaning (pile_of self.old)) paper.now }
+        ensures law { let meaning = P.meaning (pile_of self.old) in
+            FilingLaw meaning paper.now (judged meaning paper.now) }
     {
         // a match, as `inspect_err` does not say that on `Ok` its closure is not called
         let paper = match read_paper(paper) {

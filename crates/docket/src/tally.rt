@@ -1,6 +1,6 @@
 // How many papers were accepted and turned down.
 ghost use Rattle.std.specs.Prelude.{◌≡◌};
-ghost use Rattle.docket.specs.Tallies.{counted, entry_of, no_tallies, tallied, tally_in};
+ghost use Rattle.docket.specs.Tallies.{counted, entry_of, tallied, tally_in};
 
 use papers::Kind;
 
@@ -44,12 +44,6 @@ fn entry(kind: Option<Kind>) -> usize
 }
 
 impl Tallies {
-    pub(crate) fn new() -> Tallies
-        ensures { result.table ≡ no_tallies }
-    {
-        Tallies::default()
-    }
-
     pub(crate) fn of(&self, kind: Option<Kind>) -> Tally
         ensures { result ≡ tally_in self.now.table kind }
     {

@@ -6,6 +6,7 @@ use Rattle.transducers.specs.Meaning.{Meaning}
 use Rattle.bottoms.specs.Tiles.{list_meaning}
 use Rattle.bottoms.specs.declared.catalogue.CatalogueTransducer.{CatalogueTransducer}
 use Rattle.bottoms.specs.declared.list.ListTransducer.{ListTransducer}
+use Rattle.docket.specs.Dockets.{ends_of, pile_of, tallies_of}
 use Rattle.docket.specs.Tallies.{no_tallies}
 use Rattle.docket.specs.declared.tally.Tally.{Tally}
 use Rattle.laws.specs.Promise.{Promise}
@@ -29,16 +30,16 @@ row_means t = catalogue t.row
 
 -- what the pile under the docket means
 abbrev pub docket_meaning : SetDocket → Meaning
-docket_meaning (Tiles d) = pile_meaning list_means d.pile
-docket_meaning (Row d) = pile_meaning row_means d.pile
+docket_meaning (Tiles d) = pile_meaning list_means (pile_of d)
+docket_meaning (Row d) = pile_meaning row_means (pile_of d)
 
 abbrev pub docket_ends : SetDocket → Ends
-docket_ends (Tiles d) = d.ends
-docket_ends (Row d) = d.ends
+docket_ends (Tiles d) = ends_of d
+docket_ends (Row d) = ends_of d
 
 abbrev pub docket_tallies : SetDocket → List Tally
-docket_tallies (Tiles d) = d.tallies.table
-docket_tallies (Row d) = d.tallies.table
+docket_tallies (Tiles d) = tallies_of d
+docket_tallies (Row d) = tallies_of d
 
 -- a new docket over the pile of this kind, all of whose bottoms mean t
 pub record NewOver (k : PileKind) (t : Meaning) (d : SetDocket) : Type 0 where

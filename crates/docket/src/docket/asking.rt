@@ -1,4 +1,5 @@
-// The questions of a docket. They change nothing.
+// The questions of a docket. They change nothing. Apart from docket.rt, so that the text that a must-fail edit replaces
+// stands once in its file.
 ghost use Rattle.std.specs.Prelude.{◌≡◌};
 ghost use Rattle.docket.specs.Tallies.{tally_in};
 
@@ -9,16 +10,18 @@ use rules::Ends;
 use transducers::Transducer;
 
 impl<P: Transducer> Docket<P> {
+    ghost use Rattle.docket.specs.Dockets.{ends_of, tallies_of};
+
     // The floor and the ceiling.
     pub fn ends(&self) -> Ends
-        ensures { result ≡ self.now.ends }
+        ensures { result ≡ ends_of self.now }
     {
         self.ends
     }
 
     // How many papers of a kind were accepted and turned down; under none, those that could not be read.
     pub fn tally(&self, kind: Option<Kind>) -> Tally
-        ensures { result ≡ tally_in self.now.tallies.table kind }
+        ensures { result ≡ tally_in (tallies_of self.now) kind }
     {
         self.tallies.of(kind)
     }
