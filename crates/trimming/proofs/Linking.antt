@@ -1,108 +1,128 @@
--- Counting links and chaining them, one link more. Assumes nothing.
-use Rattle.std.proofs.Common.{◌≡◌, ℕ, zero, suc, ◌+◌, ◌<◌, ◌≤◌, false, cond, List, [], ◌∷◌, ◌++◌, length, get_or, set, replicate, sym, refl, ap, ◌∙◌, subst, inl, inr, add-one, arith, below_more}
-use Rattle.std.proofs.lemmas.List.{get_or_append_left, get_or_push, get_or-replicate, get_or-set_same, get_or-set_other, length_push, length-replicate, length-set}
-use Rattle.std.proofs.lemmas.Bool.{cases_eq, cases_lt, cond_both, cond-false, cond-true, eq-eqb, eqb-true, ne_eqb}
-use Rattle.trimming.specs.Draining.{Chained, Counted, OnChain, Within, enters, how_many, last_into, leaves, link, one_if}
-use Rattle.trimming.specs.declared.links.Link.{Link}
-use Rattle.trimming.proofs.HowMany.{how_many_le, how_many_more}
+-- The links of a graph are the edges of the slots looked at. Assumes nothing.
+use Rattle.std.proofs.Common.{◌≡◌, ℕ, zero, suc, ◌+◌, ◌<◌, ◌≤◌, cond, ◌&&◌, eqb, List, [], ◌∷◌, ◌++◌, length, get_or, map, set, replicate, Some, None, Option, Vec, Global, vec_len, refl, sym, ap, ◌∙◌, subst, inl, inr, add-one, arith}
+use Rattle.std.proofs.Math.Bool.{and_comm}
+use Rattle.std.proofs.lemmas.Bool.{cases_eq, cases_lt, eq-eqb, ne_eqb}
+use Rattle.std.proofs.lemmas.List.{map-set, get_or-map, get_or_past, get_or-replicate, get_or-set_same, get_or-set_other, length-map, length-replicate, length-set}
+use Rattle.transducers.specs.Meaning.{Edge, Meaning, Valid, from, to}
+use Rattle.trimming.specs.Linking.{LinksOf, at, edges, joins, links, lists, times_in}
+use Rattle.trimming.proofs.Times.{one_at, one_other, one_same, times_push}
 
-module _ (s : ℕ) (ls : List Link) where
-  pub counted_none : Counted s ls 0 (replicate s 0)
-  unfolding how_many
-  counted_none = record { size = length-replicate s 0; count = λ q within. get_or-replicate s q 0 0 within }
+pub length-lists : (vs : List (Vec ℕ Global)) → length (lists vs) ≡ length vs
+length-lists vs = length-map vs (λ (v : Vec ℕ Global). v.items)
 
-  -- one link more, of which x is the old count of the state that it leaves
-  module _ (i x : ℕ) (counts : List ℕ) (below : i < length ls) (within : Within s ls) (old : Counted s ls i counts) (read : x ≡ get_or counts (link ls i).from 0) where
-    count_more : (q : ℕ) → q < s → get_or (set counts (link ls i).from (x + 1)) q 0 ≡ how_many (leaves ls q) (i + 1)
-    count_more q inside =
-        let f = (link ls i).from in
-        let before = old.count q inside in
-        let more = how_many_more (leaves ls q) i in
-        elim (cases_eq q f) [
-          | inl same ↦
-              let found : get_or (set counts f (x + 1)) q 0 ≡ x + 1 = rw same (get_or-set_same counts f (x + 1) 0 (omega (arith, old.size, (within i below).0))) in
-              let was : get_or counts f 0 ≡ get_or counts q 0 = rw same refl in
-              let one : one_if (leaves ls q i) ≡ 1 = ap one_if (eq-eqb f q (sym same)) in
-              omega arith
-          | inr other ↦
-              let kept : get_or (set counts f (x + 1)) q 0 ≡ get_or counts q 0 = get_or-set_other counts f q (x + 1) 0 other in
-              let none : one_if (leaves ls q i) ≡ 0 = ap one_if (ne_eqb f q (λ e. other (sym e))) in
-              omega arith
-        ]
+-- the list of a state, where it is read and where a state is added to it
+pub at_read : (vs : List (Vec ℕ Global)) (i : ℕ) (v : Vec ℕ Global) → i < length vs → v ≡ get_or vs i v → v.items ≡ at (lists vs) i
+at_read vs i v inside read = ap (λ (x : Vec ℕ Global). x.items) read ∙ sym (get_or-map (λ (x : Vec ℕ Global). x.items) vs i v [] inside)
 
-    pub counted_more : Counted s ls (i + 1) (set counts (link ls i).from (x + 1))
-    counted_more = record { size = length-set counts (link ls i).from (x + 1) ∙ old.size; count = count_more }
+pub lists_push : (vs : List (Vec ℕ Global)) (i x : ℕ) (v w : Vec ℕ Global) → i < length vs → v ≡ get_or vs i v → w.items ≡ v.items ++ x ∷ [] → lists (set vs i w) ≡ set (lists vs) i (at (lists vs) i ++ x ∷ [])
+lists_push vs i x v w inside read pushed =
+    map-set (λ (y : Vec ℕ Global). y.items) vs i w
+    ∙ ap (set (lists vs) i) (pushed ∙ ap (λ xs. xs ++ x ∷ []) (at_read vs i v inside read))
 
-    pub count_le : x ≤ i
-    count_le = omega (arith, old.count _ (within i below).0, how_many_le (leaves ls (link ls i).from) i)
+-- one if both pairs are the same
+abbrev both_at : ℕ → ℕ → ℕ → ℕ → ℕ
+both_at f p t q = cond (eqb f p && eqb t q) 1 0
 
-  pub chained_none : Within s ls → Chained s ls 0 (replicate s 0) []
-  unfolding last_into
-  chained_none within = record {
-    within = within;
-    last_size = length-replicate s 0;
-    next_size = refl;
-    last_is = λ t inside. get_or-replicate s t 0 0 inside;
-    next_is = λ k none. absurd (omega arith);
+both_here : (f p t q : ℕ) → f ≡ p → both_at f p t q ≡ one_at t q
+both_here f p t q here = ap (λ b. cond (b && eqb t q) 1 0) (eq-eqb f p here)
+
+both_past : (f p t q : ℕ) → (f ≡ p → ⊥) → both_at f p t q ≡ 0
+both_past f p t q past = ap (λ b. cond (b && eqb t q) 1 0) (ne_eqb f p past)
+
+both_comm : (f p t q : ℕ) → both_at f p t q ≡ both_at t q f p
+both_comm f p t q = ap (λ b. cond b 1 0) (and_comm (eqb f p) (eqb t q))
+
+-- one link more from f to t
+links_push : (ls : List (List ℕ)) (f t p q : ℕ) → f < length ls → links (set ls f (at ls f ++ t ∷ [])) p q ≡ links ls p q + both_at f p t q
+links_push ls f t p q inside =
+    let longer = at ls f ++ t ∷ [] in
+    elim (cases_eq p f) [
+      | inl same ↦
+          let found : links (set ls f longer) p q ≡ times_in longer q = rw same (ap (λ xs. times_in xs q) (get_or-set_same ls f longer [] inside)) in
+          let was : links ls p q ≡ times_in (at ls f) q = rw same refl in
+          omega (arith, times_push (at ls f) t q, both_here f p t q (sym same))
+      | inr other ↦
+          let kept : links (set ls f longer) p q ≡ links ls p q = ap (λ xs. times_in xs q) (get_or-set_other ls f p longer [] other) in
+          omega (arith, both_past f p t q (λ same. other (sym same)))
+    ]
+
+module _ (m : Meaning) where
+  edges_more : (p q n : ℕ) → edges m p q (n + 1) ≡ edges m p q n + joins p q (m.edge n)
+  unfolding edges
+  edges_more p q n = rw add-one refl
+
+  pub links_none : LinksOf m 0 (replicate m.states []) (replicate m.states [])
+  unfolding edges
+  links_none = record {
+    out_size = length-replicate m.states [];
+    into_size = length-replicate m.states [];
+    leaving = none;
+    entering = λ p q. none q p;
   }
+    where
+      none : (p q : ℕ) → links (replicate m.states []) p q ≡ 0
+      none p q =
+          ap (λ xs. times_in xs q)
+          (elim (cases_lt p m.states) [
+            | inl lt ↦ get_or-replicate m.states p [] [] lt
+            | inr ge ↦ get_or_past (replicate m.states []) p [] (omega (arith, length-replicate {A = List ℕ} m.states []))
+          ])
 
-  last_more : (t i : ℕ) → last_into ls t (i + 1) ≡ cond (enters ls t i) (suc i) (last_into ls t i)
-  unfolding last_into
-  last_more t i = rw add-one refl
-
-  -- one link more, of which x is the old last link into the state that it leads to
-  module _ (i x : ℕ) (last next : List ℕ) (below : i < length ls) (old : Chained s ls i last next) (read : x ≡ get_or last (link ls i).to 0) where
-    last_is_more : (t : ℕ) → t < s → get_or (set last (link ls i).to (i + 1)) t 0 ≡ last_into ls t (i + 1)
-    last_is_more t inside =
-        let into = (link ls i).to in
-        elim (cases_eq t into) [
-          | inl same ↦
-              let found : get_or (set last into (i + 1)) t 0 ≡ i + 1 = rw same (get_or-set_same last into (i + 1) 0 (omega (arith, old.last_size, (old.within i below).1))) in
-              found ∙ add-one i ∙ sym (last_more t i ∙ cond-true (enters ls t i) (suc i) _ (eq-eqb into t (sym same)))
-          | inr other ↦
-              get_or-set_other last into t (i + 1) 0 other ∙ old.last_is t inside ∙ sym (last_more t i ∙ cond-false (enters ls t i) (suc i) _ (ne_eqb into t (λ e. other (sym e))))
-        ]
-
-    next_is_more : (k : ℕ) → k < i + 1 → get_or (next ++ x ∷ []) k 0 ≡ last_into ls (link ls k).to k
-    next_is_more =
-        below_more (λ k. get_or (next ++ x ∷ []) k 0 ≡ last_into ls (link ls k).to k) i
-        (λ k lt. get_or_append_left next (x ∷ []) 0 k (omega (arith, old.next_size)) ∙ old.next_is k lt)
-        (get_or_push next x 0 i old.next_size ∙ read ∙ old.last_is (link ls i).to (old.within i below).1)
-
-    pub chained_more : Chained s ls (i + 1) (set last (link ls i).to (i + 1)) (next ++ x ∷ [])
-    chained_more = record {
-      within = old.within;
-      last_size = length-set last (link ls i).to (i + 1) ∙ old.last_size;
-      next_size = omega (arith, length_push next x, old.next_size);
-      last_is = last_is_more;
-      next_is = next_is_more;
+  -- one slot more
+  module _ (n : ℕ) (out into : List (List ℕ)) (old : LinksOf m n out into) where
+    pub links_pass : m.edge n ≡ None → LinksOf m (n + 1) out into
+    links_pass is = record {
+      out_size = old.out_size;
+      into_size = old.into_size;
+      leaving = λ p q. omega (arith, old.leaving p q, edges_more p q n, ap (joins p q) is);
+      entering = λ p q. omega (arith, old.entering p q, edges_more p q n, ap (joins p q) is);
     }
 
--- the last link below k into t: none after it leads to t
-module _ (ls : List Link) (t : ℕ) where
-  pub last_le : (k : ℕ) → last_into ls t k ≤ k
-  unfolding last_into
-  last_le zero = omega arith
-  last_le (suc k) = cond_both (enters ls t k) (suc k) (last_into ls t k) (λ x. x ≤ suc k) (λ is. omega arith) (λ is. omega (arith, last_le k))
+    pub links_more : Valid m → (e : Edge) → m.edge n ≡ Some e → LinksOf m (n + 1) (set out (from e) (at out (from e) ++ to e ∷ [])) (set into (to e) (at into (to e) ++ from e ∷ []))
+    links_more valid e is =
+        let inside = valid.inside n e is in
+        record {
+          out_size = length-set out (from e) _ ∙ old.out_size;
+          into_size = length-set into (to e) _ ∙ old.into_size;
+          leaving = λ p q. omega (arith, links_push out (from e) (to e) p q (omega (arith, old.out_size, inside.from_state)), old.leaving p q, edges_more p q n, ap (joins p q) is);
+          entering = λ p q. omega (arith, links_push into (to e) (from e) q p (omega (arith, old.into_size, inside.to_state)), old.entering p q, edges_more p q n, ap (joins p q) is, both_comm (from e) p (to e) q);
+        }
 
-  pub last_enters : (k j : ℕ) → last_into ls t k ≡ j + 1 → (link ls j).to ≡ t
-  unfolding last_into
-  last_enters zero j = λ is. absurd (omega arith)
-  last_enters (suc k) j =
-      cond_both (enters ls t k) (suc k) (last_into ls t k) (λ x. x ≡ j + 1 → (link ls j).to ≡ t)
-      (λ into is. let same : k ≡ j = omega arith in subst (λ x. (link ls x).to ≡ t) same (eqb-true (link ls k).to t into))
-      (λ past. last_enters k j)
+  -- an edge is counted, and what is counted is an edge
+  pub edge_counted : (n i : ℕ) (e : Edge) → i < n → m.edge i ≡ Some e → 1 ≤ edges m (from e) (to e) n
+  unfolding edges
+  edge_counted zero i e lt is = absurd (omega arith)
+  edge_counted (suc n) i e lt is =
+      elim (cases_lt i n) [
+        | inl before ↦ omega (arith, edge_counted n i e before is)
+        | inr ge ↦
+            let here : i ≡ n = omega arith in
+            let one : joins (from e) (to e) (m.edge n) ≡ 1 = ap (joins (from e) (to e)) (subst (λ x. m.edge x ≡ Some e) here is) ∙ both_here (from e) (from e) (to e) (to e) refl ∙ one_same (to e) (to e) refl in
+            omega arith
+      ]
 
-  pub none_after : (k j : ℕ) → last_into ls t k ≤ j → j < k → enters ls t j ≡ false
-  unfolding last_into
-  none_after zero j = λ le lt. absurd (omega arith)
-  none_after (suc k) j =
-      cond_both (enters ls t k) (suc k) (last_into ls t k) (λ x. x ≤ j → j < suc k → enters ls t j ≡ false)
-      (λ is le lt. absurd (omega arith))
-      (λ is le lt. elim (cases_lt j k) [
-        | inl below ↦ none_after k j le below
-        | inr ge ↦ let same : k ≡ j = omega arith in subst (λ x. enters ls t x ≡ false) same is
-      ])
+  edge_here : (p q n : ℕ) (o : Option Edge) → m.edge n ≡ o → 1 ≤ joins p q o → (i : ℕ) × (e : Edge) × (m.edge i ≡ Some e) × (from e ≡ p) × (to e ≡ q)
+  edge_here p q n None is one = absurd (omega arith)
+  edge_here p q n (Some e) is one =
+      elim (cases_eq (from e) p) [
+        | inl here ↦ elim (cases_eq (to e) q) [
+          | inl same ↦ (n, e, is, here, same)
+          | inr other ↦ absurd (omega (arith, one, both_here (from e) p (to e) q here, one_other (to e) q other))
+        ]
+        | inr past ↦ absurd (omega (arith, one, both_past (from e) p (to e) q past))
+      ]
 
-  pub on_chain : (k : ℕ) → k ≤ length ls → OnChain ls t (last_into ls t k)
-  on_chain k le j at = (omega (arith, last_le k), last_enters k j (sym at))
+  pub edge_found : (p q n : ℕ) → 1 ≤ edges m p q n → (i : ℕ) × (e : Edge) × (m.edge i ≡ Some e) × (from e ≡ p) × (to e ≡ q)
+  unfolding edges
+  edge_found p q zero some = absurd (omega arith)
+  edge_found p q (suc n) some =
+      elim (cases_lt 0 (joins p q (m.edge n))) [
+        | inl here ↦ edge_here p q n (m.edge n) refl here
+        | inr none ↦ edge_found p q n (omega arith)
+      ]
+
+-- how long the list of a state is
+pub length-at : (vs : List (Vec ℕ Global)) (q : ℕ) → get_or (map (λ v. vec_len v) vs) q 0 ≡ length (at (lists vs) q)
+length-at [] q = refl
+length-at (v ∷ vs) zero = v.ok.0
+length-at (v ∷ vs) (suc q) = length-at vs q

@@ -1,63 +1,86 @@
--- The states from which edges go on for ever both ways are the largest set that thrives. Assumes nothing.
-use Rattle.std.proofs.Common.{◌≡◌, ℕ, true, ◌&&◌, ◌||◌, eqb, Some, sym, refl, ap, ◌∙◌, subst, inl, inr}
+-- The states from which links can be followed for ever both ways are the largest set that thrives. Assumes nothing.
+use Rattle.std.proofs.Common.{◌≡◌, ℕ, ◌<◌, ◌≤◌, zero, suc, Bool, true, ◌&&◌, ◌||◌, eqb, List, [], ◌∷◌, map, Some, refl, sym, ap, ◌∙◌, subst, inl, inr, arith}
 use mathlib.Core.Path.{fun_ext}
-use Rattle.std.proofs.lemmas.Bool.{and_from, and_parts, eq-eqb, eqb-true, or_cases, or_left, or_right}
-use Rattle.trimming.specs.Lasting.{GoesOn, LargestBy, end, start}
-use Rattle.transducers.specs.Meaning.{Edge, Meaning, from, to}
-use Rattle.trimming.specs.Trimming.{Largest, States, Thriving}
-use Rattle.trimming.specs.declared.links.Way.{Way}
-use Rattle.trimming.specs.declared.links.Way.TheVariants.{Forward, Backward}
+use Rattle.std.proofs.lemmas.Bool.{and_from, and_parts, and_right, cases_lt, eq-eqb, eqb-true, or_cases, or_left, or_right}
+use Rattle.std.specs.Prelude.{zip}
+use Rattle.transducers.specs.Meaning.{Edge, Meaning, Valid, from, to}
+use Rattle.trimming.specs.Draining.{Lasting, Left, LinkTo}
+use Rattle.trimming.specs.Linking.{IsReverse, LinksOf, links}
+use Rattle.trimming.specs.Trimming.{EdgeIn, EdgeOut, Largest, States, listed}
+use Rattle.trimming.proofs.Linking.{edge_counted, edge_found}
 
--- the other way
-abbrev back : Way → Way
-back Forward = Backward
-back Backward = Forward
-
-back_start : (w : Way) (e : Edge) → start (back w) e ≡ end w e
-back_start Forward e = refl
-back_start Backward e = refl
-
-back_end : (w : Way) (e : Edge) → end (back w) e ≡ start w e
-back_end Forward e = refl
-back_end Backward e = refl
-
-module _ (m : Meaning) (w : Way) where
-  -- one state more goes on if an edge leads from it to a state of B
-  more_goes_on : (B : States) (i p : ℕ) (e : Edge) → m.edge i ≡ Some e → start w e ≡ p → B (end w e) ≡ true → GoesOn m w B → GoesOn m w (λ x. B x || eqb x p)
-  more_goes_on B i p e at here in-B goes_on x is =
+-- a link out of a state of both sets that leads into A leads into B: B lasts with one state more
+module _ (ls other : List (List ℕ)) (turned : IsReverse ls other) (A B : States) (one : Left ls A) (back : Left other B) where
+  more_lasts : (p q : ℕ) → 1 ≤ links other p q → B q ≡ true → Lasting other (λ x. B x || eqb x p)
+  more_lasts p q link in-B x is =
       elim (or_cases (B x) (eqb x p) is) [
-        | inl in-set ↦ let f = goes_on x in-set in (f.0, f.1, f.2, f.3, or_left (B (end w f.1)) _ f.4)
-        | inr same ↦ (i, e, at, here ∙ sym (eqb-true x p same), or_left (B (end w e)) _ in-B)
+        | inl in-set ↦ let by = back.lasts x in-set in (by.0, by.1, or_left (B by.0) _ by.2)
+        | inr same ↦ (q, subst (λ y. 1 ≤ links other y q) (sym (eqb-true x p same)) link, or_left (B q) _ in-B)
       ]
 
--- an edge out of a state of both sets that leads into A leads into B: B goes on the other way
-module _ (m : Meaning) (w : Way) (A B : States) (one : LargestBy m w A) (other : LargestBy m (back w) B) where
-  into_both : (q : ℕ) → A q ≡ true → B q ≡ true → (i : ℕ) × (e : Edge) × (m.edge i ≡ Some e) × (start w e ≡ q) × (A (end w e) ≡ true) × (B (end w e) ≡ true)
+  pub into_both : (q : ℕ) → A q ≡ true → B q ≡ true → LinkTo ls (λ x. A x && B x) q
   into_both q in-A in-B =
-      let f = one.goes_on q in-A in
-      let e = f.1 in
-      let p = end w e in
-      let wider = more_goes_on m (back w) B f.0 p e f.2 (back_start w e) (ap B (back_end w e ∙ f.3) ∙ in-B) other.goes_on in
-      (f.0, e, f.2, f.3, f.4, other.largest (λ x. B x || eqb x p) wider p (or_right (B p) _ (eq-eqb p p refl)))
+      let by = one.lasts q in-A in
+      let p = by.0 in
+      let wider = more_lasts p q (omega (arith, by.1, turned q p)) in-B in
+      (p, by.1, and_from (A p) (B p) by.2 (back.largest (λ x. B x || eqb x p) wider p (or_right (B p) _ (eq-eqb p p refl))))
 
-module _ (m : Meaning) (A B : States) (forth : LargestBy m Forward A) (back : LargestBy m Backward B) where
-  both_thrive : Thriving m (λ q. A q && B q)
-  both_thrive = record {
-    edge_in = λ q is.
-        let parts = and_parts (A q) (B q) is in
-        let f = into_both m Backward B A back forth q parts.1 parts.0 in
-        (f.0, f.1, f.2, f.3, and_from (A (from f.1)) _ f.5 f.4);
-    edge_out = λ q is.
-        let parts = and_parts (A q) (B q) is in
-        let f = into_both m Forward A B forth back q parts.0 parts.1 in
-        (f.0, f.1, f.2, f.3, and_from (A (to f.1)) _ f.4 f.5);
-  }
+module _ (m : Meaning) (valid : Valid m) (out into : List (List ℕ)) (graph : LinksOf m m.slots out into) where
+  within_slots : (i : ℕ) (e : Edge) → m.edge i ≡ Some e → i < m.slots
+  within_slots i e is =
+      elim (cases_lt i m.slots) [
+        | inl lt ↦ lt
+        | inr ge ↦ absurd (cc (is, valid.beyond i ge))
+      ]
 
-  both_largest : Largest m (λ q. A q && B q)
-  both_largest = record {
-    thrives = both_thrive;
-    largest = λ S thrives q is. and_from (A q) (B q) (forth.largest S thrives.edge_out q is) (back.largest S thrives.edge_in q is);
-  }
+  counted : (i : ℕ) (e : Edge) → m.edge i ≡ Some e → (1 ≤ links out (from e) (to e)) × (1 ≤ links into (to e) (from e))
+  counted i e is =
+      let some = edge_counted m m.slots i e (within_slots i e is) is in
+      (omega (arith, graph.leaving (from e) (to e)), omega (arith, graph.entering (from e) (to e)))
 
-  pub common_largest : (K : States) → ((q : ℕ) → K q ≡ (A q && B q)) → Largest m K
-  common_largest K common = subst (Largest m) (sym (fun_ext common)) both_largest
+  edge_out : (S : States) (q : ℕ) → LinkTo out S q → EdgeOut m S q
+  edge_out S q by =
+      let f = edge_found m q by.0 m.slots (omega (arith, by.1, graph.leaving q by.0)) in
+      (f.0, f.1, f.2, f.3, ap S f.4 ∙ by.2)
+
+  edge_in : (S : States) (q : ℕ) → LinkTo into S q → EdgeIn m S q
+  edge_in S q by =
+      let f = edge_found m by.0 q m.slots (omega (arith, by.1, graph.entering by.0 q)) in
+      (f.0, f.1, f.2, f.4, ap S f.3 ∙ by.2)
+
+  link_out : (S : States) (q : ℕ) → EdgeOut m S q → LinkTo out S q
+  link_out S q by = (to by.1, subst (λ x. 1 ≤ links out x (to by.1)) by.3 (counted by.0 by.1 by.2).0, by.4)
+
+  link_in : (S : States) (q : ℕ) → EdgeIn m S q → LinkTo into S q
+  link_in S q by = (from by.1, subst (λ x. 1 ≤ links into x (from by.1)) by.3 (counted by.0 by.1 by.2).1, by.4)
+
+  pub turned : IsReverse out into
+  turned p q = graph.leaving p q ∙ sym (graph.entering p q)
+
+  module _ (A B : States) (ahead : Left out A) (back : Left into B) where
+    both_largest : Largest m (λ q. A q && B q)
+    both_largest = record {
+      thrives = record {
+        edge_in = λ q is.
+            let parts = and_parts (A q) (B q) is in
+            let by = into_both into out (λ p q. sym (turned q p)) B A back ahead q parts.1 parts.0 in
+            edge_in (λ x. A x && B x) q (by.0, by.1, (let both = and_parts (B by.0) (A by.0) by.2 in and_from (A by.0) (B by.0) both.1 both.0));
+        edge_out = λ q is.
+            let parts = and_parts (A q) (B q) is in
+            edge_out (λ x. A x && B x) q (into_both out into turned A B ahead back q parts.0 parts.1);
+      };
+      largest = λ S thrives q is.
+          and_from (A q) (B q)
+          (ahead.largest S (λ x in-S. link_out S x (thrives.edge_out x in-S)) q is)
+          (back.largest S (λ x in-S. link_in S x (thrives.edge_in x in-S)) q is);
+    }
+
+    pub common_largest : (K : States) → ((q : ℕ) → K q ≡ (A q && B q)) → Largest m K
+    common_largest K common = subst (Largest m) (sym (fun_ext common)) both_largest
+
+-- the states that two lists have in common
+pub listed-zip : (xs ys : List Bool) (q : ℕ) → listed (map (λ p. p.0 && p.1) (zip xs ys)) q ≡ (listed xs q && listed ys q)
+listed-zip [] ys q = refl
+listed-zip (x ∷ xs) [] q = sym (and_right (listed (x ∷ xs) q) _ refl)
+listed-zip (x ∷ xs) (y ∷ ys) zero = refl
+listed-zip (x ∷ xs) (y ∷ ys) (suc q) = listed-zip xs ys q

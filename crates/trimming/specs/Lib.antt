@@ -1,6 +1,5 @@
 pub mod Draining
-pub mod Drains
-pub mod Lasting
+pub mod Graphs
 pub mod Linking
 pub mod Trimming
 pub mod TrimmingLemmas

@@ -1,23 +1,41 @@
--- The links of a transducer's edges, followed one way. Assumes nothing.
-use Rattle.std.specs.Prelude.{ℕ, zero, suc, List, [], ◌∷◌, ◌++◌, Some, None, Option}
+-- Links between states, where each state has a list of those that its links lead to. Assumes nothing.
+use Rattle.std.specs.Prelude.{◌≡◌, ℕ, zero, suc, ◌+◌, if◌then◌else◌, ◌&&◌, List, [], length, ◌==◌, count_by, map, Some, None, Option, slice_index_or}
+use Rattle.std.specs.declared.alloc.Global.{Global}
+use Rattle.std.specs.declared.vec.Vec.{Vec}
 use Rattle.transducers.specs.Meaning.{Edge, Meaning, from, to}
-use Rattle.trimming.specs.declared.links.Link.{Link}
-use Rattle.trimming.specs.declared.links.Way.{Way}
-use Rattle.trimming.specs.declared.links.Way.TheVariants.{Forward, Backward}
 
--- an edge between two states is a link from one to the other, or back
-abbrev pub link_by : Way → ℕ → ℕ → Link
-link_by Forward p q = record { from = p; to = q }
-link_by Backward p q = record { from = q; to = p }
+abbrev pub lists : List (Vec ℕ Global) → List (List ℕ)
+lists vs = map (λ v. v.items) vs
 
-abbrev pub edge_links : Way → Option Edge → List Link
-edge_links w None = []
-edge_links w (Some e) = link_by w (from e) (to e) ∷ []
+-- the list of a state
+abbrev pub at : List (List ℕ) → ℕ → List ℕ
+at ls p = slice_index_or ls p []
 
--- the links of the edges in the first n slots
-unfoldable pub links_below : Meaning → Way → ℕ → List Link
-links_below m w zero = []
-links_below m w (suc n) = links_below m w n ++ edge_links w (m.edge n)
+-- how many times a list has q
+abbrev pub times_in : List ℕ → ℕ → ℕ
+times_in qs q = count_by (λ x. x == q) qs
 
-abbrev pub links_in : Meaning → Way → List Link
-links_in m w = links_below m w m.slots
+-- how many links lead from p to q
+abbrev pub links : List (List ℕ) → ℕ → ℕ → ℕ
+links ls p q = times_in (at ls p) q
+
+-- the links of one are those of the other, each turned round
+abbrev pub IsReverse : List (List ℕ) → List (List ℕ) → Type 0
+IsReverse out into = (p q : ℕ) → links out p q ≡ links into q p
+
+-- one if an edge leads from p to q
+abbrev pub joins : ℕ → ℕ → Option Edge → ℕ
+joins p q None = 0
+joins p q (Some e) = if (from e == p && to e == q) then 1 else 0
+
+-- how many of the first n slots have an edge from p to q
+unfoldable pub edges : Meaning → ℕ → ℕ → ℕ → ℕ
+edges m p q zero = 0
+edges m p q (suc n) = edges m p q n + joins p q (m.edge n)
+
+-- each state has its lists, and the links in them are the edges of the first n slots
+pub record LinksOf (m : Meaning) (n : ℕ) (out into : List (List ℕ)) : Type 0 where
+  pub out_size : length out ≡ m.states
+  pub into_size : length into ≡ m.states
+  pub leaving : (p q : ℕ) → links out p q ≡ edges m p q n
+  pub entering : (p q : ℕ) → links into q p ≡ edges m p q n

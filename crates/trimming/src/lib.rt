@@ -1,8 +1,7 @@
 // Trimming: a transducer without the edges that cannot be gone on from in both directions.
 #![tactic(auto)]
 
-mod drain;
-mod links;
+mod graph;
 mod trim;
 
 pub use trim::Trim;

@@ -1,11 +1,9 @@
 // A transducer without the edges that lead nowhere.
-ghost use Rattle.std.specs.Prelude.{◌≡◌, ℕ, ◌&&◌, length, IfOk, vec_len};
-ghost use Rattle.trimming.specs.Lasting.{LargestBy};
+ghost use Rattle.std.specs.Prelude.{◌≡◌, IfOk};
 ghost use Rattle.trimming.specs.Trimming.{Largest, kept_set, listed, trim};
 ghost use Rattle.trimming.specs.TrimmingLemmas.{trim_valid};
 
-use crate::drain::drain;
-use crate::links::{Way, links_of};
+use crate::graph::Graph;
 use std::alloc::{AllocError, Global};
 use transducers::Transducer;
 
@@ -16,32 +14,14 @@ pub struct Trim<T> {
     kept: Vec<bool>,
 }
 
-// The states from which edges can be followed for ever one way.
-fn lasting<T: Transducer>(heap: Global, below: &T, way: Way) -> Result<Vec<bool>, AllocError>
-    ensures { IfOk result (λ v. (vec_len v ≡ (T.meaning below.now).states) × LargestBy (T.meaning below.now) way (listed v.items)) }
-{
-    let links = links_of(heap, below, way)?;
-    drain(heap, below.states(), &links)
-}
-
-// Takes out of a list of states those that another list lacks.
-fn keep_common(states: &mut [bool], other: &[bool])
-    requires sizes { length states.old ≡ length other.now }
-    ensures { (q : ℕ) → listed states.new q ≡ (listed states.old q && listed other.now q) }
-{
-    for i in 0..states.len() {
-        states[i] = states[i] && other[i];
-    }
-}
-
 // The states from which edges can be followed for ever both ways.
 fn thriving<T: Transducer>(heap: Global, below: &T) -> Result<Vec<bool>, AllocError>
     ensures { IfOk result (λ v. Largest (T.meaning below.now) (listed v.items)) }
 {
-    let mut kept = lasting(heap, below, Way::Forward)?;
-    let reached = lasting(heap, below, Way::Backward)?;
-    keep_common(&mut kept, &reached);
-    Ok(kept)
+    let graph = Graph::new(heap, below)?;
+    let ahead = graph.lasting(heap)?;
+    let back = graph.reversed().lasting(heap)?;
+    ahead.iter().zip(&back).map(|(&a, &b)| a && b).collect(heap)
 }
 
 impl<T: Transducer + Drop> Trim<T> {

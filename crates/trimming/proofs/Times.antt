@@ -1,0 +1,60 @@
+-- How many times a list has a number, and sums over its numbers. Assumes nothing.
+use Rattle.std.proofs.Common.{◌≡◌, ℕ, ◌+◌, ◌≤◌, cond, eqb, List, [], ◌∷◌, ◌++◌, length, refl, sym, ap, ◌∙◌, inl, inr, arith}
+use Rattle.std.specs.Prelude.{sum_by}
+use Rattle.std.proofs.lemmas.Bool.{cases_eq, cases_lt, eq-eqb, ne_eqb}
+use Rattle.std.proofs.lemmas.List.Sums.{sum_by-cons, sum_by_push}
+use Rattle.trimming.specs.Linking.{times_in}
+
+-- one if two numbers are the same
+abbrev pub one_at : ℕ → ℕ → ℕ
+one_at x q = cond (eqb x q) 1 0
+
+pub one_same : (x q : ℕ) → x ≡ q → one_at x q ≡ 1
+one_same x q same = ap (λ b. cond b 1 0) (eq-eqb x q same)
+
+pub one_other : (x q : ℕ) → (x ≡ q → ⊥) → one_at x q ≡ 0
+one_other x q other = ap (λ b. cond b 1 0) (ne_eqb x q other)
+
+pub one_comm : (x q : ℕ) → one_at x q ≡ one_at q x
+one_comm x q =
+    elim (cases_eq x q) [
+      | inl same ↦ one_same x q same ∙ sym (one_same q x (sym same))
+      | inr other ↦ one_other x q other ∙ sym (one_other q x (λ same. other (sym same)))
+    ]
+
+pub times-cons : (x : ℕ) (xs : List ℕ) (q : ℕ) → times_in (x ∷ xs) q ≡ one_at x q + times_in xs q
+times-cons x xs q = sum_by-cons (λ y. one_at y q) x xs
+
+pub times_push : (xs : List ℕ) (x q : ℕ) → times_in (xs ++ x ∷ []) q ≡ times_in xs q + one_at x q
+times_push xs x q = sum_by_push (λ y. one_at y q) xs x
+
+-- the sum of two
+pub sum_plus : (f g h : ℕ → ℕ) → ((x : ℕ) → f x ≡ g x + h x) → (xs : List ℕ) → sum_by f xs ≡ sum_by g xs + sum_by h xs
+sum_plus f g h both [] = refl
+sum_plus f g h both (x ∷ xs) = omega (arith, both x, sum_plus f g h both xs, sum_by-cons f x xs, sum_by-cons g x xs, sum_by-cons h x xs)
+
+-- a sum of ones
+pub sum_ones : (f : ℕ → ℕ) (xs : List ℕ) → ((x : ℕ) → 1 ≤ times_in xs x → f x ≡ 1) → length xs ≡ sum_by f xs
+sum_ones f [] one = refl
+sum_ones f (x ∷ xs) one =
+    let here : f x ≡ 1 = one x (omega (arith, times-cons x xs x, one_same x x refl)) in
+    omega (arith, sum_by-cons f x xs, sum_ones f xs (λ y has. one y (omega (arith, times-cons x xs y))))
+
+-- a term is within the sum, and some term of a sum is not 0
+pub sum_has : (f : ℕ → ℕ) (xs : List ℕ) (q : ℕ) → 1 ≤ times_in xs q → f q ≤ sum_by f xs
+sum_has f [] q has = absurd (omega arith)
+sum_has f (x ∷ xs) q has =
+    elim (cases_eq x q) [
+      | inl same ↦ let here : f x ≡ f q = ap f same in omega (arith, sum_by-cons f x xs)
+      | inr other ↦ omega (arith, sum_by-cons f x xs, sum_has f xs q (omega (arith, times-cons x xs q, one_other x q other)))
+    ]
+
+pub sum_some : (f : ℕ → ℕ) (xs : List ℕ) → 1 ≤ sum_by f xs → (x : ℕ) × (1 ≤ times_in xs x) × (1 ≤ f x)
+sum_some f [] some = absurd (omega arith)
+sum_some f (x ∷ xs) some =
+    elim (cases_lt 0 (f x)) [
+      | inl here ↦ (x, omega (arith, times-cons x xs x, one_same x x refl), here)
+      | inr none ↦
+          let later = sum_some f xs (omega (arith, sum_by-cons f x xs)) in
+          (later.0, omega (arith, later.1, times-cons x xs later.0), later.2)
+    ]
