@@ -61,11 +61,8 @@ impl<T: Transducer> Transducer for Trim<T> {
     }
 
     fn slot(&self, i: u32) -> Option<(u32, u32, u32, u32)> {
-        let (from, to, south, north) = self.below.slot(i)?;
-        if self.keeps(from) && self.keeps(to) {
-            Some((from, to, south, north))
-        } else {
-            None
-        }
+        self.below
+            .slot(i)
+            .filter(|&(from, to, _, _)| self.keeps(from) && self.keeps(to))
     }
 }
