@@ -18,7 +18,7 @@ pub(crate) struct Graph {
     ghost reverse: { IsReverse (lists out.items) (lists into.items) },
 }
 
-// An empty list for each state, with room for so many. A loop, since memory may be wanting for each.
+// An empty list for each state, with room for so many. A plain loop: each list may want memory.
 fn empty_lists(heap: Global, states: u32, room: u32) -> Result<Vec<Vec<u32>>, AllocError>
     ensures { IfOk result (λ v. lists v.items ≡ replicate states []) }
 {
@@ -36,6 +36,7 @@ fn unlink(states: &[u32], counts: &mut [usize], going: &mut Vec<usize>) -> Resul
         slice_index counts.new q + times_in states.now q ≡ slice_index counts.old q) }
     ensures standing { OnOk result ((q : ℕ) →
         standing counts.new going.new.items q ≡ standing counts.old going.old.items q) }
+    // what falls as states go
     ensures weight { OnOk result (sum counts.new + vec_len going.new ≤ sum counts.old + vec_len going.old) }
 {
     for &state in states {
@@ -61,6 +62,7 @@ impl Graph {
         let share = slots / states;
         let mut out = empty_lists(heap, states, share)?;
         let mut into = empty_lists(heap, states, share)?;
+        // a plain loop: what is in a slot goes into two lists, and either may want memory
         for i in 0..slots {
             if let Some((from, to, _, _)) = below.slot(i) {
                 out[from as usize].push(to)?;
@@ -87,11 +89,13 @@ impl Graph {
     {
         // for each state how many links it has to states that are left
         let mut counts: Vec<usize> = self.out.iter().map(|to| to.len()).collect(heap)?;
+        // the states that have none, and are still to go
         let mut going: Vec<usize> = counts
             .iter()
             .enumerate()
             .filter_map(|(state, &count)| (count == 0).then_some(state))
             .collect(heap)?;
+        // the list grows as it is worked off
         while let Some(state) = going.pop() {
             unlink(&self.into[state], &mut counts, &mut going)?;
         }
