@@ -4,8 +4,9 @@ use rules::{DocketFault, Ends, Width};
 const ENDLESS: u32 = 0xffff_ffff;
 
 // What filing answered. Number 0 is accepted, and then the two widths stand; any other is the fault's.
+// C has no Result, so the answer is flat.
 #[repr(C)]
-#[derive(Clone, Copy)]
+#[derive(Clone, Copy, Default)]
 pub struct Answer {
     pub number: u32,
     pub place: u32,
@@ -20,19 +21,19 @@ fn width_number(width: Width) -> u32 {
     }
 }
 
-pub(crate) fn answer_of(answer: Result<Ends, DocketFault>) -> Answer {
-    match answer {
-        Ok(ends) => Answer {
-            number: 0,
-            place: 0,
-            floor: width_number(ends.floor),
-            ceiling: width_number(ends.ceiling),
-        },
-        Err(fault) => Answer {
-            number: fault.number() as u32,
-            place: fault.place(),
-            floor: 0,
-            ceiling: 0,
-        },
+impl From<Result<Ends, DocketFault>> for Answer {
+    fn from(answer: Result<Ends, DocketFault>) -> Answer {
+        match answer {
+            Ok(ends) => Answer {
+                floor: width_number(ends.floor),
+                ceiling: width_number(ends.ceiling),
+                ..Answer::default()
+            },
+            Err(fault) => Answer {
+                number: u32::from(fault.number()),
+                place: fault.place(),
+                ..Answer::default()
+            },
+        }
     }
 }

@@ -1,8 +1,14 @@
 // Opening dockets, and filing papers in one.
-use crate::answer::{Answer, answer_of};
+use crate::answer::Answer;
 use crate::reading::set_of;
 use piles::SetDocket;
 use std::alloc::Global;
+
+// A docket over the pile that the text names.
+fn docket_of(heap: Global, text: &[u8]) -> Option<SetDocket> {
+    let read = set_of(heap, text)?;
+    SetDocket::of_set(heap, read.set, &read.tiles).ok()
+}
 
 // Files a paper so many times in one docket over the pile that the text names, and gives the last answer.
 // It answers whether there is such a docket.
@@ -14,14 +20,11 @@ pub extern "C" fn bench_file(
     times: u32,
     answer: &mut Answer,
 ) -> bool {
-    let Some(read) = set_of(heap, text) else {
-        return false;
-    };
-    let Ok(mut docket) = SetDocket::of_set(heap, read.set, &read.tiles) else {
+    let Some(mut docket) = docket_of(heap, text) else {
         return false;
     };
     for _ in 0..times {
-        *answer = answer_of(docket.file(paper));
+        *answer = docket.file(paper).into();
     }
     true
 }

@@ -1,10 +1,8 @@
 // Reading set texts.
-use bottoms::Tile;
+use bottoms::{MOST_TILES, Tile};
 use setgrammar::{SetText, TextFault};
 use settext::read_set;
 use std::alloc::Global;
-
-const MOST_TILES: usize = 1024;
 
 // A set text that was read, and a list that begins with its tiles.
 #[derive(Drop)]
@@ -13,30 +11,17 @@ pub(crate) struct ReadSet {
     pub(crate) tiles: Vec<Tile>,
 }
 
-fn blank() -> Tile {
-    Tile {
-        west: 0,
-        east: 0,
-        south: 0,
-        north: 0,
-    }
-}
-
 // The set of a text, or none where the text is refused or there is no memory.
 pub(crate) fn set_of(heap: Global, text: &[u8]) -> Option<ReadSet> {
-    let Ok(mut tiles) = vec![in heap; blank(); MOST_TILES] else {
-        return None;
-    };
-    match read_set(text, &mut tiles) {
-        Ok(set) => Some(ReadSet { set, tiles }),
-        Err(_) => None,
-    }
+    let mut tiles = vec![in heap; Tile::default(); MOST_TILES].ok()?;
+    let set = read_set(text, &mut tiles).ok()?;
+    Some(ReadSet { set, tiles })
 }
 
 // What a reading answered, for C. Number 0 is taken; any other is the fault's, with its line and column.
-// The sum is over the whole list of tiles.
+// The sum is over the whole list of tiles. C has no Result, so the answer is flat.
 #[repr(C)]
-#[derive(Clone, Copy)]
+#[derive(Clone, Copy, Default)]
 pub struct Reading {
     pub tiles: u32,
     pub number: u32,
@@ -48,18 +33,16 @@ pub struct Reading {
 fn reading_of(answer: Result<SetText, TextFault>, sum: u32) -> Reading {
     match answer {
         Ok(set) => Reading {
-            tiles: set.tiles as u32,
-            number: 0,
-            line: 0,
-            column: 0,
+            tiles: u32::from(set.tiles),
             sum,
+            ..Reading::default()
         },
         Err(fault) => Reading {
-            tiles: 0,
-            number: fault.number() as u32,
+            number: u32::from(fault.number()),
             line: fault.line(),
             column: fault.column(),
             sum,
+            ..Reading::default()
         },
     }
 }
@@ -77,7 +60,7 @@ fn sum_of(tiles: &[Tile]) -> u32 {
 // Reads a set text so many times, and once more for what it answers. It answers whether there was memory for the tiles.
 #[unsafe(no_mangle)]
 pub extern "C" fn bench_read(heap: Global, text: &[u8], times: u32, reading: &mut Reading) -> bool {
-    let Ok(mut tiles) = vec![in heap; blank(); MOST_TILES] else {
+    let Ok(mut tiles) = vec![in heap; Tile::default(); MOST_TILES] else {
         return false;
     };
     for _ in 1..times {

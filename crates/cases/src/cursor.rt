@@ -13,25 +13,18 @@ impl<'a> Cursor<'a> {
 
     // The next bytes, as many as asked for or as there are.
     pub fn part(&mut self, size: usize) -> &'a [u8] {
-        let rest = self.rest;
-        let size = size.min(rest.len());
-        let (front, back) = rest.split_at(size);
-        self.rest = back;
+        let (front, rest) = self.rest.split_at(size.min(self.rest.len()));
+        self.rest = rest;
         front
     }
 
-    pub fn byte(&mut self) -> u8 {
-        match self.part(1) {
-            [b] => *b,
-            _ => 0,
-        }
+    pub fn byte(&mut self) -> Option<u8> {
+        self.part(1).first().copied()
     }
 
-    // The next four bytes, least byte first; all bits set at the end.
-    pub fn word(&mut self) -> u32 {
-        match self.part(4) {
-            [a, b, c, d] => u32::from_le_bytes([*a, *b, *c, *d]),
-            _ => 0xffff_ffff,
-        }
+    // The next four bytes, least byte first.
+    pub fn word(&mut self) -> Option<u32> {
+        let bytes = self.part(4).try_into().ok()?;
+        Some(u32::from_le_bytes(bytes))
     }
 }

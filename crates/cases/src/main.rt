@@ -7,18 +7,18 @@ mod judging;
 use cursor::Cursor;
 use judging::judge_case;
 use std::fs;
+use std::rt::Files;
 
 // A text of this length is no case: it marks the end.
 const END: u32 = 0xffff_ffff;
 
-fn run(rt: &HostRuntime) -> anyhow::Result<()> {
+fn run<R: Files + AllocGlobal + Print>(rt: &R) -> anyhow::Result<()> {
     let bytes = fs::read(rt, "cases.bin")?;
     let mut cursor = Cursor::new(&bytes);
     for k in 1..=100000u32 {
-        let size = cursor.word();
-        if size == END {
+        let Some(size) = cursor.word().filter(|&size| size != END) else {
             break;
-        }
+        };
         let text = cursor.part(size as usize);
         println!(rt; "case {k}")?;
         judge_case(rt, text, &mut cursor)?;

@@ -4,29 +4,20 @@
 mod files;
 mod filing;
 
-use bottoms::Tile;
+use bottoms::{MOST_TILES, Tile};
 use files::read_file;
 use filing::judge_set;
 use reports::set_line;
 use settext::read_set;
+use std::rt::Files;
 
-const MOST_TILES: usize = 1024;
 // One byte more than a set text may have, so that a longer one is seen to be longer.
 const TEXT_BYTES: u64 = 65536;
 
-fn run(rt: &HostRuntime) -> anyhow::Result<()> {
+fn run<R: Files + AllocGlobal + Print>(rt: &R) -> anyhow::Result<()> {
     let heap = rt.alloc();
-    let text = match read_file(rt, "set.txt", TEXT_BYTES)? {
-        Some(text) => text,
-        None => Vec::new(heap),
-    };
-    let blank = Tile {
-        west: 0,
-        east: 0,
-        south: 0,
-        north: 0,
-    };
-    let mut tiles = vec![in heap; blank; MOST_TILES]?;
+    let text = read_file(rt, "set.txt", TEXT_BYTES)?.unwrap_or(Vec::new(heap));
+    let mut tiles = vec![in heap; Tile::default(); MOST_TILES]?;
     match read_set(&text, &mut tiles) {
         Ok(set) => judge_set(rt, set, &tiles)?,
         Err(fault) => rt.println(set_line(heap, fault)?)?,

@@ -2,13 +2,9 @@
 ghost use Rattle.std.specs.Prelude.{◌≡◌, ◌+◌, ◌*◌, ◌/◌, ◌%◌, ◌^◌, ◌<◌, ◌≤◌, ◌==◌, length, position, MatchOption};
 ghost use Rattle.reports.specs.Excerpts.{blame_of, IsCut, LineStart, LineEnd, NoLine, IsBlamed, Excerpted, OnlyExcerpt};
 
-use papers::{BlockFault, PaperFault};
+use papers::{BLOCK_BYTES, BLOCK_NUMBERS, BlockFault, PaperFault};
 use rules::DocketFault;
 use setgrammar::TextFault;
-
-const BLOCK_BYTES: usize = 512;
-
-const BLOCK_NUMBERS: usize = 126;
 
 // The fault that is to be shown. Both are faults, so a Result says no more.
 #[derive(Clone, Copy, PartialEq, Eq, Debug)]

@@ -29,8 +29,7 @@ fn tile(west: u8, east: u8) -> Tile {
     Tile {
         west,
         east,
-        south: 0,
-        north: 0,
+        ..Tile::default()
     }
 }
 
@@ -48,19 +47,13 @@ fn small_paper(kind: u8, count: u8, first: u8, second: u8, check: u8) -> [u8; 51
 #[test]
 fn judges_the_example(rt: HostRuntime) -> Result<(), Fail> {
     let tiles = [tile(0, 1), tile(1, 2)];
-    let Ok(mut docket) = SetDocket::over_tiles(rt.alloc(), PileKind::Plain, &tiles) else {
-        return Err(Fail::new("no docket"));
-    };
+    let mut docket = SetDocket::over_tiles(rt.alloc(), PileKind::Plain, &tiles)?;
     let strip = small_paper(1, 2, 0, 1, 20);
     let ranking = small_paper(3, 3, 2, 1, 40);
-    let Ok(ends) = docket.file(&strip) else {
-        return Err(Fail::new("no strip"));
-    };
+    let ends = docket.file(&strip)?;
     assert_eq!(rt; ends.floor, Width::Number(2));
     assert_eq!(rt; ends.ceiling, Width::Endless);
-    let Ok(ends) = docket.file(&ranking) else {
-        return Err(Fail::new("no ranking"));
-    };
+    let ends = docket.file(&ranking)?;
     assert_eq!(rt; ends.floor, Width::Number(2));
     assert_eq!(rt; ends.ceiling, Width::Number(2));
     Ok(())
@@ -69,20 +62,12 @@ fn judges_the_example(rt: HostRuntime) -> Result<(), Fail> {
 #[test]
 fn turns_down_what_is_no_paper(rt: HostRuntime) -> Result<(), Fail> {
     let tiles = [tile(0, 1), tile(1, 2)];
-    let Ok(mut docket) = SetDocket::over_tiles(rt.alloc(), PileKind::Plain, &tiles) else {
-        return Err(Fail::new("no docket"));
-    };
+    let mut docket = SetDocket::over_tiles(rt.alloc(), PileKind::Plain, &tiles)?;
     let overlong = vec![in rt.alloc(); 0u8; 33280]?;
     let broken = small_paper(1, 2, 0, 1, 21);
     for paper in [&[], &overlong[0..511], &overlong[0..33280]] {
-        let Err(fault) = docket.file(paper) else {
-            return Err(Fail::new("taken"));
-        };
-        assert_eq!(rt; fault.number(), 11);
+        assert_eq!(rt; docket.file(paper).map_err(DocketFault::number), Err(11));
     }
-    let Err(fault) = docket.file(&broken) else {
-        return Err(Fail::new("taken"));
-    };
-    assert_eq!(rt; fault.number(), 12);
+    assert_eq!(rt; docket.file(&broken).map_err(DocketFault::number), Err(12));
     Ok(())
 }

@@ -4,16 +4,9 @@ use setgrammar::{Position, SetText, TextFault};
 use settext::read_set;
 use std::test::Fail;
 
-const NONE: Tile = Tile {
-    west: 0,
-    east: 0,
-    south: 0,
-    north: 0,
-};
-
 #[test]
 fn takes_two_tiles(rt: HostRuntime) -> Result<(), Fail> {
-    let mut tiles = [NONE; 2];
+    let mut tiles = [Tile::default(); 2];
     assert_eq!(rt;
         read_set(b"p 1\nt 0 1 0 0\nt 1 2 0 0\n", &mut tiles)?.tiles,
         2
@@ -36,7 +29,7 @@ fn takes_a_row(rt: HostRuntime) -> Result<(), Fail> {
 
 #[test]
 fn colours_end_at_255(rt: HostRuntime) -> Result<(), Fail> {
-    let mut tiles = [NONE; 1];
+    let mut tiles = [Tile::default(); 1];
     assert_eq!(rt; read_set(b"p 1\nt 0 0 0 255\n", &mut tiles)?.tiles, 1);
     let at = Position { line: 2, column: 9 };
     assert_eq!(rt;

@@ -4,5 +4,4 @@
 mod cursor;
 mod reader;
 
-pub use bottoms::MOST_TILES;
 pub use reader::read_set;
