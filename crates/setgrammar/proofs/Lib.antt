@@ -1,10 +1,8 @@
 pub mod Breaks
-pub mod Bytes
 pub mod Fields
 pub mod Fronts
 pub mod LineLaw
 pub mod LineTaken
-pub mod Notes
 pub mod Numbers
 pub mod Remarks
 pub mod Rooms

@@ -1,6 +1,6 @@
 -- What reading a number comes to. Assumes nothing.
-use Rattle.std.proofs.Common.{◌≡◌, ℕ, ◌+◌, ◌-◌, ◌*◌, ◌≤◌, Bool, true, false, ◌&&◌, ltb, leb, List, [], ◌∷◌, ◌++◌, length, Ok, Err, decimal, refl, ap, ◌∙◌, inl, inr, arith}
-use Rattle.std.proofs.lemmas.Bool.{cases_Bool, and_parts, leb-true, lt-ltb, ltb-true, ne_eqb, and_right}
+use Rattle.std.proofs.Common.{◌≡◌, ℕ, ◌+◌, ◌-◌, ◌*◌, ◌≤◌, true, false, ◌&&◌, ltb, leb, List, [], ◌∷◌, ◌++◌, length, Ok, Err, decimal, refl, ap, ◌∙◌, inl, inr, arith}
+use Rattle.std.proofs.lemmas.Bool.{cases_Bool, and_parts, ltb-true, ne_eqb, and_right}
 use Rattle.std.proofs.lemmas.Bool.Decides.{nat_tests}
 use Rattle.setgrammar.proofs.Fronts.{Stops, same_number}
 use Rattle.setgrammar.proofs.Shapes.{one, two, three, shape, decimal_one, decimal_two, decimal_three}
@@ -20,13 +20,10 @@ pub along_along : (at : Position) (i j k : ℕ) → i + j ≡ k → along (along
 along_along at i j k e = ap (λ (c : ℕ). record { line = at.line; column = c }) (omega arith)
 
 digit_true : (b : ℕ) → is_digit b ≡ true → (48 ≤ b) × (b ≤ 57)
-digit_true b e = let p = and_parts (leb 48 b) (leb b 57) e in (leb-true 48 b p.0, leb-true b 57 p.1)
+digit_true b e = (grind arith, grind arith)
 
 digit_false : (b : ℕ) → is_digit b ≡ false → 48 ≤ b → b ≤ 57 → ⊥
 digit_false b e h k = grind (arith, nat_tests)
-
-after_true : (x y : Bool) → x ≡ true → (x && y) ≡ false → y ≡ false
-after_true x y e f = rw e at f
 
 -- the next byte is no digit, or the text ends
 abbrev NoDigit : List ℕ → Type 0
@@ -68,7 +65,7 @@ more_cases n (b ∷ rest) at =
           goes (b - 48) rest (ap (λ (c : ℕ). c ∷ rest) (omega arith)) (omega arith) (omega (arith, ltb-true 0 n p.0))
           (rw (p.0, p.1, ne_eqb b 10 other-than-feed))
       | inr isnt ↦
-          stops (λ some. digit_false b (after_true (ltb 0 n) (is_digit b) (lt-ltb 0 n some) isnt)) (rw isnt)
+          stops (λ some. digit_false b (grind arith)) (rw isnt)
     ]
 
 data Numeral (bs : List ℕ) (at : Position) : Type 0 where
@@ -125,8 +122,7 @@ number_after low high bs at (other b rest is no_digit e) = other b rest is no_di
 number_after low high bs at (numeral n rest short is s e) =
     elim (cases_Bool (leb low n && leb n high)) [
       | inl fits ↦
-          let p = and_parts (leb low n) (leb n high) fits in
-          number n rest short is s (leb-true low n p.0) (leb-true n high p.1) (rw (e, fits))
+          number n rest short is s (grind arith) (grind arith) (rw (e, fits))
       | inr past ↦ outside n rest short is s (λ h k. grind (arith, nat_tests)) (rw (e, past))
     ]
 
@@ -147,7 +143,7 @@ pub number_taken : (low high n : ℕ) (rest : List ℕ) (at : Position) → n �
     → number_at low high (place (decimal n ++ rest) at) ≡ Ok (n, place rest (along at (length (decimal n))))
 number_taken low high n rest at short above below halts =
     elim (number_cases low high (decimal n ++ rest) at) [
-      | ends is e ↦ let f = digit_first n short in let z : ◌≡◌ {A = ℕ} 0 1 = cc (rw f.3 at is) in absurd (omega arith)
+      | ends is e ↦ let f = digit_first n short in absurd (grind (arith, rw f.3 at is))
       | other b rest' is apart e ↦
           let f = digit_first n short in
           let g = rw f.3 at is in

@@ -57,9 +57,9 @@ same_set set p r t e f g = rw (e, f, g)
 
 -- whole lines are what the stage says
 pub said_only : (ls : List Line) (stage : Stage) → Stands ls stage → (at : Position) (set : SetText) → Says ls set → said stage at ≡ Ok set
-said_only ls Empty s at set (inl (e, f)) = let z : ◌≡◌ {A = ℕ} 0 1 = cc in absurd (omega arith)
-said_only ls Empty s at set (inr (e, f, g, h)) = let z : ◌≡◌ {A = ℕ} 0 1 = cc in absurd (omega arith)
-said_only ls (Piled n) s at set (inl (e, f)) = let z : ◌≡◌ {A = ℕ} 0 1 = cc in absurd (omega arith)
+said_only ls Empty s at set (inl (e, f)) = absurd (grind arith)
+said_only ls Empty s at set (inr (e, f, g, h)) = absurd (grind arith)
+said_only ls (Piled n) s at set (inl (e, f)) = absurd (grind arith)
 said_only ls (Piled n) s at set (inr (e, f, g, h)) = absurd (omega (arith, ap length s.1))
 said_only ls (Rowed n r) s at set (inl (e, f)) =
     let a : n ≡ set.pile = cc in let b : r ≡ set.row = cc in ap Ok (same_set set n r 0 a b (sym f))
@@ -67,7 +67,7 @@ said_only ls (Rowed n r) s at set (inr (e, f, g, h)) = absurd (omega (arith, ap 
 said_only ls (Tiled n c) s at set (inl (e, f)) =
     let a : row set.row ∷ [] ≡ map tile (tiles_in ls) = cc in
     let t = all_tiles [] (tiles_in ls) (row set.row) [] a in
-    let z : ◌≡◌ {A = ℕ} 0 1 = cc t.1 in absurd (omega arith)
+    absurd (grind (arith, t.1))
 said_only ls (Tiled n c) s at set (inr (e, f, g, h)) =
     let a : n ≡ set.pile = cc in ap Ok (same_set set n 0 c a (sym f) (omega arith))
 
@@ -78,7 +78,7 @@ pub data Said (ls : List Line) (stage : Stage) (at : Position) : Type 0 where
 
 not_said : (ls : List Line) (stage : Stage) → Stands ls stage → (at : Position) → said stage at ≡ Err (Ends at) → (set : SetText) → Says ls set → ⊥
 not_said ls stage s at e set says =
-    let f = said_only ls stage s at set says in let z : ◌≡◌ {A = ℕ} 0 1 = cc in omega arith
+    let f = said_only ls stage s at set says in grind arith
 
 pub said_cases : (ls : List Line) (stage : Stage) → Stands ls stage → (at : Position) → Said ls stage at
 said_cases ls Empty s at = short refl (not_said ls Empty s at refl)

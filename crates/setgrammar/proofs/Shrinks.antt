@@ -51,11 +51,16 @@ module _ (n : ℕ) where
   within_fields : (ranges : List (ℕ × ℕ)) → Sane ranges → (p : Place) → length p.rest ≤ n → Within n (fields_at ranges p)
   within_fields ranges sane p h = after_fields ranges p.rest p.at h (fields_cases ranges sane p.rest p.at)
 
+  within_number_line : (low high : ℕ) → Sane ((low, high) ∷ []) → (p : Place) → length p.rest ≤ n
+      → Within n (number_line_at low high p)
+  within_number_line low high sane p h =
+      within_then (fields_at ((low, high) ∷ []) p) _ (within_fields ((low, high) ∷ []) sane p h) (λ _ q k. k)
+
   within_tile : (pile count : ℕ) (ts : List Tile) (start : Position) (p : Place) → length p.rest ≤ n
       → Within n (tile_at pile count ts start p)
   within_tile pile count ts start p h =
-      within_cond (leb (length ts) count || leb 1024 count) _ _ tt
-      (within_then (tile_line_at p) _ (within_then (fields_at colours p) _ (within_fields colours tiles.sane p h) (λ _ q k. k)) (λ _ q k. k))
+      let line = within_then (fields_at colours p) _ (within_fields colours tiles.sane p h) (λ _ q k. k) in
+      within_cond (leb (length ts) count || leb 1024 count) _ _ tt (within_then (tile_line_at p) _ line (λ _ q k. k))
 
   within_turn : (kind : LineKind) (stage : Stage) (ts : List Tile) (start : Position) (p : Place) → length p.rest ≤ n
       → Within n (turn_at kind stage ts start p)
@@ -63,13 +68,13 @@ module _ (n : ℕ) where
   within_turn kind.Note stage ts start p h =
       within_then (note_at p) _ (after_note p.rest p.at h (remark_cases p.rest p.at)) (λ _ q k. k)
   within_turn kind.Pile Empty ts start p h =
-      within_then (number_line_at 1 6 p) _ (within_then (fields_at ((1, 6) ∷ []) p) _ (within_fields ((1, 6) ∷ []) piles.sane p h) (λ _ q k. k)) (λ _ q k. k)
+      within_then (number_line_at 1 6 p) _ (within_number_line 1 6 piles.sane p h) (λ _ q k. k)
   within_turn kind.Pile (Piled pile) ts start p h = tt
   within_turn kind.Pile (Rowed pile row) ts start p h = tt
   within_turn kind.Pile (Tiled pile count) ts start p h = tt
   within_turn kind.Row Empty ts start p h = tt
   within_turn kind.Row (Piled pile) ts start p h =
-      within_then (number_line_at 1 8 p) _ (within_then (fields_at ((1, 8) ∷ []) p) _ (within_fields ((1, 8) ∷ []) rows.sane p h) (λ _ q k. k)) (λ _ q k. k)
+      within_then (number_line_at 1 8 p) _ (within_number_line 1 8 rows.sane p h) (λ _ q k. k)
   within_turn kind.Row (Rowed pile row) ts start p h = tt
   within_turn kind.Row (Tiled pile count) ts start p h = tt
   within_turn kind.Tile Empty ts start p h = tt

@@ -104,33 +104,33 @@ stands_next ls (Tiled p c) (tile t) s t' = (
 
 -- among tiles each line is a tile
 pub all_tiles : (us ts : List Tile) (l : Line) (ls : List Line) → map tile us ++ l ∷ ls ≡ map tile ts → (t : Tile) × (l ≡ tile t)
-all_tiles [] [] l ls e = let z : ◌≡◌ {A = ℕ} 0 1 = cc in absurd (omega arith)
+all_tiles [] [] l ls e = absurd (grind arith)
 all_tiles [] (t ∷ ts) l ls e = (t, cc)
-all_tiles (u ∷ us) [] l ls e = let z : ◌≡◌ {A = ℕ} 0 1 = cc in absurd (omega arith)
+all_tiles (u ∷ us) [] l ls e = absurd (grind arith)
 all_tiles (u ∷ us) (t ∷ ts) l ls e = all_tiles us ts l ls (cc)
 
 -- what may follow, by what is said
 after_nothing : (l : Line) (ls : List Line) → Turns (l ∷ ls) → (n : ℕ) × (l ≡ pile n)
-after_nothing l ls (inl e) = let z : ◌≡◌ {A = ℕ} 0 1 = cc in absurd (omega arith)
+after_nothing l ls (inl e) = absurd (grind arith)
 after_nothing l ls (inr (inl (n, r, e))) = (n, cc)
 after_nothing l ls (inr (inr (n, ts, e))) = (n, cc)
 
 after_pile : (p : ℕ) (l : Line) (ls : List Line) → Turns (pile p ∷ l ∷ ls) → ((r : ℕ) × (l ≡ row r)) ⊎ ((t : Tile) × (l ≡ tile t))
-after_pile p l ls (inl e) = let z : ◌≡◌ {A = ℕ} 0 1 = cc in absurd (omega arith)
+after_pile p l ls (inl e) = absurd (grind arith)
 after_pile p l ls (inr (inl (n, r, e))) = inl (r, cc)
 after_pile p l ls (inr (inr (n, ts, e))) = inr (all_tiles [] ts l ls (cc))
 
 after_row : (p q : ℕ) (l : Line) (ls : List Line) → Turns (pile p ∷ row q ∷ l ∷ ls) → ⊥
-after_row p q l ls (inl e) = let z : ◌≡◌ {A = ℕ} 0 1 = cc in omega arith
-after_row p q l ls (inr (inl (n, r, e))) = let z : ◌≡◌ {A = ℕ} 0 1 = cc in omega arith
+after_row p q l ls (inl e) = grind arith
+after_row p q l ls (inr (inl (n, r, e))) = grind arith
 after_row p q l ls (inr (inr (n, ts, e))) =
-    let f = all_tiles [] ts (row q) (l ∷ ls) (cc) in let z : ◌≡◌ {A = ℕ} 0 1 = cc f.1 in omega arith
+    let f = all_tiles [] ts (row q) (l ∷ ls) (cc) in grind (arith, f.1)
 
 after_tiles : (p : ℕ) (us : List Tile) (l : Line) (ls : List Line) → 1 ≤ length us → Turns (pile p ∷ (map tile us ++ l ∷ ls))
     → (t : Tile) × (l ≡ tile t)
-after_tiles p us l ls some (inl e) = let z : ◌≡◌ {A = ℕ} 0 1 = cc in absurd (omega arith)
+after_tiles p us l ls some (inl e) = absurd (grind arith)
 after_tiles p [] l ls some (inr (inl (n, r, e))) = absurd (omega arith)
-after_tiles p (u ∷ us) l ls some (inr (inl (n, r, e))) = let z : ◌≡◌ {A = ℕ} 0 1 = cc in absurd (omega arith)
+after_tiles p (u ∷ us) l ls some (inr (inl (n, r, e))) = absurd (grind arith)
 after_tiles p us l ls some (inr (inr (n, ts, e))) = all_tiles us ts l ls (cc)
 
 -- the stage takes a line that is in turn
@@ -145,14 +145,14 @@ turn_takes ls stage s (note bs) more turn = tt
 turn_takes ls Empty s (pile n) more turn = tt
 turn_takes ls Empty s (row n) more turn =
     let f = after_nothing (row n) (spoken more) (speaks ls more (row n) [] s.0 refl turn) in
-    let z : ◌≡◌ {A = ℕ} 0 1 = cc f.1 in omega arith
+    grind (arith, f.1)
 turn_takes ls Empty s (tile t) more turn =
     let f = after_nothing (tile t) (spoken more) (speaks ls more (tile t) [] s.0 refl turn) in
-    let z : ◌≡◌ {A = ℕ} 0 1 = cc f.1 in omega arith
+    grind (arith, f.1)
 turn_takes ls (Piled p) s (pile n) more turn =
     elim (after_pile p (pile n) (spoken more) (speaks ls more (pile n) (pile p ∷ []) s.0 refl turn)) [
-      | inl f ↦ let z : ◌≡◌ {A = ℕ} 0 1 = cc f.1 in omega arith
-      | inr f ↦ let z : ◌≡◌ {A = ℕ} 0 1 = cc f.1 in omega arith
+      | inl f ↦ grind (arith, f.1)
+      | inr f ↦ grind (arith, f.1)
     ]
 turn_takes ls (Piled p) s (row n) more turn = tt
 turn_takes ls (Piled p) s (tile t) more turn = tt
@@ -165,9 +165,9 @@ turn_takes ls (Rowed p r) s (tile t) more turn =
 turn_takes ls (Tiled p c) s (pile n) more turn =
     let f = after_tiles p (tiles_in ls) (pile n) (spoken more) (omega arith)
     (speaks ls more (pile n) (pile p ∷ map tile (tiles_in ls)) s.0 refl turn) in
-    let z : ◌≡◌ {A = ℕ} 0 1 = cc f.1 in omega arith
+    grind (arith, f.1)
 turn_takes ls (Tiled p c) s (row n) more turn =
     let f = after_tiles p (tiles_in ls) (row n) (spoken more) (omega arith)
     (speaks ls more (row n) (pile p ∷ map tile (tiles_in ls)) s.0 refl turn) in
-    let z : ◌≡◌ {A = ℕ} 0 1 = cc f.1 in omega arith
+    grind (arith, f.1)
 turn_takes ls (Tiled p c) s (tile t) more turn = tt

@@ -1,11 +1,8 @@
 -- The steps of the loop over the lines. Assumes nothing.
 use Rattle.std.proofs.Common.{◌≡◌, ℕ, zero, suc, ◌<◌, ◌≤◌, true, false, List, [], ◌∷◌, length, Ok, Err, refl, arith}
-use Rattle.std.proofs.lemmas.Bool.{le-leb}
-use Rattle.bottoms.specs.declared.tile.Tile.{Tile}
-use Rattle.setgrammar.specs.declared.line.Stage.TheVariants.{Empty}
 use Rattle.setgrammar.proofs.Shrinks.{line_shrinks}
-use Rattle.setgrammar.specs.Lines.{State, set_text, Outcome, said, is_empty, lines, line_at}
-use Rattle.setgrammar.specs.Place.{Place, start_of}
+use Rattle.setgrammar.specs.Lines.{State, Outcome, said, is_empty, lines, line_at}
+use Rattle.setgrammar.specs.Place.{Place}
 use Rattle.setgrammar.specs.declared.fault.TextFault.{TextFault}
 
 pub some_left : (bs : List ℕ) → 0 < length bs → is_empty bs ≡ false
@@ -19,11 +16,6 @@ none_left (b ∷ bs) h = absurd (omega arith)
 -- enough turns are left for what is left of the text, and they come to the outcome
 abbrev pub Comes : State → Place → Outcome → Type 0
 Comes s p o = (n : ℕ) × (length p.rest ≤ n) × (lines n s p ≡ o)
-
-pub comes_start : (bs : List ℕ) (ts : List Tile) (p : Place) → p ≡ start_of bs → length bs ≤ 65535
-    → Comes (record { stage = Empty; tiles = ts }) p (set_text bs ts)
-comes_start bs ts p is short =
-    rw is (length bs, omega arith, rw (le-leb (length bs) 65535 short))
 
 pub comes_more : (s t : State) (p q : Place) (o : Outcome) → 0 < length p.rest → Ok (t, q) ≡ line_at s p
     → Comes s p o → Comes t q o
