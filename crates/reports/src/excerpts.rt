@@ -98,6 +98,7 @@ fn line_start(bytes: &[u8], line: u32) -> Option<usize>
     ensures { MatchOption result (NoLine bytes.now line) (λ s. LineStart bytes.now line s) }
 {
     let mut start = 0;
+    // Each turn passes one line feed.
     for _ in 0..line.checked_sub(1)? {
         start += first_feed(&bytes[start..])? + 1;
     }

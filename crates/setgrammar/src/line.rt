@@ -1,6 +1,6 @@
 // The kinds of lines, and how far a reader has come in their order.
 
-// The kind of a line, which its first character says.
+// The kind of a line, which its first character says. A reader matches it together with its stage.
 #[derive(Clone, Copy, PartialEq, Eq, Debug)]
 pub enum LineKind {
     // the number of the pile

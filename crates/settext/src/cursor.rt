@@ -100,7 +100,7 @@ impl<'a> Cursor<'a> {
         Ok(number)
     }
 
-    // A number of at most three digits, in the range.
+    // A number of at most three digits, in the range. What `contains` says of a range depends on whether it was iterated.
     fn number(&mut self, range: RangeInclusive<u8>) -> Result<u8, TextFault>
         requires { range_inclusive_exhausted range ≡ false }
         ensures { reading result self.new

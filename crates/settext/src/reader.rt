@@ -98,6 +98,7 @@ pub fn read_set(text: &[u8], tiles: &mut [Tile]) -> Result<SetText, TextFault>
         cursor: Cursor::new(text),
         stage: Stage::Empty,
     };
+    // A loop, since the reader advances in place.
     while !reader.cursor.rest.is_empty() {
         reader.line(tiles)?;
     }
