@@ -1,6 +1,7 @@
 // Answers as plain numbers, for C.
 use rules::{DocketFault, Ends, Width};
 
+// For C, which has no enum with values.
 const ENDLESS: u32 = 0xffff_ffff;
 
 // What filing answered. Number 0 is accepted, and then the two widths stand; any other is the fault's.

@@ -17,7 +17,7 @@ pub struct CatalogueTransducer {
 impl CatalogueTransducer {
     ghost use Rattle.bottoms.specs.CatalogueMade.{RowAnswered};
 
-    // Row 1 to 8 of the catalogue.
+    // Row 1 to 8 of the catalogue, by its number in the texts. Any number may be asked for.
     pub fn new(row: u8) -> Result<CatalogueTransducer, RowFault>
         ensures { RowAnswered row result }
     {

@@ -62,7 +62,7 @@ const ROWS: [Multiplier; 8] = [
     },
 ];
 
-// Row 1 to 8 of the table.
+// Row 1 to 8 of the table, by its number in the texts. Any number may be asked for.
 pub fn multiplier_in(row: u8) -> Option<Multiplier>
     ensures { result ≡ (if is_row row then Some (table_row row) else None) }
 {

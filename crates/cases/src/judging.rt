@@ -12,6 +12,7 @@ fn file_papers<R: AllocGlobal + Print>(
     mut docket: Option<SetDocket>,
     cursor: &mut Cursor<'_>,
 ) -> anyhow::Result<()> {
+    // Rust has no From of u32 for usize.
     let count = cursor.byte().unwrap_or(0);
     for k in 1..=u32::from(count) {
         let size = cursor.word().unwrap_or(0);

@@ -9,7 +9,7 @@ use judging::judge_case;
 use std::fs;
 use std::rt::Files;
 
-// A text of this length is no case: it marks the end.
+// A text of this length is no case: it marks the end, in the file too.
 const END: u32 = 0xffff_ffff;
 
 fn run<R: Files + AllocGlobal + Print>(rt: &R) -> anyhow::Result<()> {

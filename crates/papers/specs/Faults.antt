@@ -1,5 +1,5 @@
 -- The number and the place of each fault. Assumes nothing.
-use Rattle.std.specs.Prelude.{ℕ}
+use Rattle.std.specs.Prelude.{ℕ, Some, None, Option}
 use Rattle.papers.specs.declared.fault.BlockFault.{BlockFault}
 use Rattle.papers.specs.declared.fault.BlockFault.TheVariants as block
 use Rattle.papers.specs.declared.fault.PaperFault.{PaperFault}
@@ -28,3 +28,8 @@ paper_fault_number (paper.Block f) = block_fault_number f
 abbrev pub paper_fault_place : PaperFault → ℕ
 paper_fault_place paper.Length = 0
 paper_fault_place (paper.Block f) = block_fault_place f
+
+-- the fault of a block, if it is one
+abbrev pub block_fault : PaperFault → Option BlockFault
+block_fault paper.Length = None
+block_fault (paper.Block f) = Some f

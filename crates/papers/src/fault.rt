@@ -1,7 +1,7 @@
 // Why a block or a paper is not taken.
 ghost use Rattle.std.specs.Prelude.{◌≡◌};
 ghost use Rattle.papers.specs.declared.fault.PaperFault.TheVariants.{Block as of_block};
-ghost use Rattle.papers.specs.Faults.{block_fault_number, block_fault_place, paper_fault_number, paper_fault_place};
+ghost use Rattle.papers.specs.Faults.{block_fault, block_fault_number, block_fault_place, paper_fault_number, paper_fault_place};
 
 // The first fault of a block. All but `Length` hold the block's due place.
 #[derive(Clone, Copy, PartialEq, Eq, Debug)]
@@ -51,22 +51,26 @@ pub enum PaperFault {
 }
 
 impl PaperFault {
+    // The fault of a block, if it is one.
+    fn block(self) -> Option<BlockFault>
+        ensures { result ≡ block_fault self }
+    {
+        match self {
+            PaperFault::Length => None,
+            PaperFault::Block(fault) => Some(fault),
+        }
+    }
+
     pub fn number(self) -> u8
         ensures { result ≡ paper_fault_number self }
     {
-        match self {
-            PaperFault::Length => 11,
-            PaperFault::Block(fault) => fault.number(),
-        }
+        self.block().map_or(11, BlockFault::number)
     }
 
     pub fn place(self) -> u16
         ensures { result ≡ paper_fault_place self }
     {
-        match self {
-            PaperFault::Length => 0,
-            PaperFault::Block(fault) => fault.place(),
-        }
+        self.block().map_or(0, BlockFault::place)
     }
 }
 

@@ -35,7 +35,7 @@ impl Paper<'_> {
         u32::from(self.count)
     }
 
-    // The number at a place, 0 past the last.
+    // The number at a place, 0 past the last: callers are promised a number for every place.
     pub fn number(&self, place: u32) -> u32
         ensures { result ≡ slice_index (held self.now).numbers place }
     {

@@ -39,7 +39,7 @@ impl SetDocket {
         Ok(SetDocket::Tiles(Docket::open(pile)))
     }
 
-    // A docket over a pile of a catalogue row.
+    // A docket over a pile of a catalogue row, by its number in the texts. Any number may be asked for.
     pub fn over_row(heap: Global, kind: PileKind, row: u8) -> Result<SetDocket, PileFault>
         ensures opens { IfOk result (λ d. NewOver kind (catalogue (table_row row)) d) }
         ensures starts { IfOk result Started }

@@ -20,7 +20,7 @@ pub(crate) struct Reader<'a> {
 impl Reader<'_> {
     ghost use Rattle.settext.specs.Readers.{state_of, stepped};
 
-    // The rest of a tile line, whose tile comes after `count` others.
+    // The rest of a tile line, whose tile comes after `count` others. The pile is a number as in the answer.
     fn tile(
         &mut self,
         pile: u8,

@@ -19,6 +19,7 @@ pub(crate) struct Graph {
 }
 
 // An empty list for each state, with room for so many. A plain loop: each list may want memory.
+// Here and below, a `u32` is made a `usize` by `as`: Rust has no `From` there.
 fn empty_lists(heap: Global, states: u32, room: u32) -> Result<Vec<Vec<u32>>, AllocError>
     ensures { IfOk result (λ v. lists v.items ≡ replicate states []) }
 {

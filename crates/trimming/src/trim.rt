@@ -35,7 +35,7 @@ impl<T: Transducer + Drop> Trim<T> {
 }
 
 impl<T> Trim<T> {
-    // Whether a state is kept; one past the list is not.
+    // Whether a state is kept; one past the list is not. Rust has no `From` of `u32` for `usize`.
     fn keeps(&self, state: u32) -> bool
         ensures { result ≡ kept_set self.now state }
     {
