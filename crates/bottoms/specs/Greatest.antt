@@ -28,6 +28,21 @@ module _ (f : Tile → ℕ) where
   unfolding greatest
   greatest_none ts i past = at_drop_all (greatest f) ts i past
 
+  -- one tile more, with the greatest so far
+  pub greatest_more :
+      (ts : List Tile) (i so : ℕ) (d : Tile) → i < length ts → max so (greatest f (drop i ts)) ≡ greatest f ts →
+      max (max (f (slice_index_or ts i d)) so) (greatest f (drop (i + 1) ts)) ≡ greatest f ts
+  unfolding greatest
+  greatest_more ts i so d within before =
+      let step : greatest f (drop i ts) ≡ max (f (slice_index_or ts i d)) (greatest f (drop (i + 1) ts)) =
+          at_drop_more (greatest f) ts i d within in
+      omega arith
+
+  pub greatest_all :
+      (ts : List Tile) (i so : ℕ) → length ts ≤ i → max so (greatest f (drop i ts)) ≡ greatest f ts →
+      so ≡ greatest f ts
+  greatest_all ts i so past before = omega (arith, greatest_none ts i past)
+
   -- some tile has the greatest
   pub greatest_attained :
       (ts : List Tile) (d : Tile) → 1 ≤ length ts →

@@ -2,7 +2,7 @@
 ghost use Rattle.std.specs.Prelude.{◌≡◌, ◌+◌, ◌*◌, ◌<◌, ◌≤◌, false, length, IfOk};
 ghost use Rattle.std.specs.Range.{range_inclusive_end, range_inclusive_exhausted, range_inclusive_start};
 ghost use Rattle.setgrammar.specs.Place.{start_of, after, byte_at};
-ghost use Rattle.setgrammar.specs.Items.{expect_at, digit_at, digit_next, more_at, number_at, note_at, field_at};
+ghost use Rattle.setgrammar.specs.Items.{expect_at, digit_at, digit_next, more_at, note_at, field_at};
 ghost use Rattle.setgrammar.specs.Lines.{kind_at, number_line_at, tile_line_at};
 
 use bottoms::Tile;
@@ -100,12 +100,14 @@ impl<'a> Cursor<'a> {
         Ok(number)
     }
 
-    // A number of at most three digits, in the range. What `contains` says of a range depends on whether it was iterated.
-    fn number(&mut self, range: RangeInclusive<u8>) -> Result<u8, TextFault>
+    // A space, and a number of at most three digits in the range. What `contains` says of a range depends on whether it
+    // was iterated.
+    fn field(&mut self, range: RangeInclusive<u8>) -> Result<u8, TextFault>
         requires { range_inclusive_exhausted range ≡ false }
         ensures { reading result self.new
-            ≡ number_at (range_inclusive_start range) (range_inclusive_end range) (here self.old) }
+            ≡ field_at (range_inclusive_start range) (range_inclusive_end range) (here self.old) }
     {
+        self.expect(b' ')?;
         let at = self.at;
         let first = u16::from(self.digit()?);
         let second = self.more(first)?;
@@ -114,16 +116,6 @@ impl<'a> Cursor<'a> {
             .ok()
             .filter(|number| range.contains(number))
             .ok_or(TextFault::Range(at))
-    }
-
-    // A space and a number.
-    fn field(&mut self, range: RangeInclusive<u8>) -> Result<u8, TextFault>
-        requires { range_inclusive_exhausted range ≡ false }
-        ensures { reading result self.new
-            ≡ field_at (range_inclusive_start range) (range_inclusive_end range) (here self.old) }
-    {
-        self.expect(b' ')?;
-        self.number(range)
     }
 
     // The line's kind, by its first byte.

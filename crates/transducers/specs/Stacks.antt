@@ -3,12 +3,15 @@ use Rattle.std.specs.Prelude.{◌≡◌, ℕ, ◌*◌, ◌/◌, ◌<◌, ◌≤�
 use Rattle.std.proofs.Common.{sym, subst, mul_comm, arith}
 use Rattle.std.proofs.Math.Path.{fun_ext}
 use Rattle.std.proofs.lemmas.Option.{cond_some, none-some}
-use Rattle.std.proofs.lemmas.Nat.{le-div, mul-add-lt}
+use Rattle.std.proofs.lemmas.Nat.{le-div, mul-add-lt, mul-le}
 use Rattle.std.proofs.lemmas.Bool.{le-ltb, ltb-false}
-use Rattle.transducers.specs.Held.{CountsOf, held_edge, held_to, lies_inside, stack_held}
+use Rattle.transducers.specs.Held.{held_edge, held_to, lies_inside, stack_held}
 use Rattle.transducers.specs.Meaning.{Edge, Meaning, Inside, Valid, from, to, south, north}
 use Rattle.transducers.specs.Stacking.{both_edges, paired, stack}
 use Rattle.transducers.specs.declared.counts.Counts.{Counts}
+
+pub some_product : (a b : ℕ) → 1 ≤ a → 1 ≤ b → 1 ≤ a * b
+some_product a b some more = let h : 1 * 1 ≤ a * b = mul-le 1 1 a b some more in h
 
 pub paired_below : (a b q p : ℕ) → q < a → p < b → paired b q p < a * b
 paired_below a b q p low high = rw (mul_comm a b) (mul-add-lt q b p a low high)
@@ -64,10 +67,13 @@ module _ (l u : Meaning) (lv : Valid l) (uv : Valid u) where
   pub stack_beyond : (i : ℕ) → l.slots * u.slots ≤ i → (stack l u).edge i ≡ None
   stack_beyond i past = rw (lv.beyond (i / u.slots) (le-div l.slots i u.slots uv.some_slot past)) refl
 
-  module _ (c : Counts) (counts : CountsOf c (stack l u)) where
+  module _
+      (c : Counts) (states : c.states ≡ (stack l u).states) (letters : c.letters ≡ (stack l u).letters)
+      (slots : c.slots ≡ (stack l u).slots)
+    where
     lies : (e : Edge) → Inside (stack l u).states (stack l u).letters e → lies_inside c e ≡ true
     lies e h =
-        grind (arith, counts.states, counts.letters, h.from_state, h.to_state, h.south_letter, h.north_letter)
+        grind (arith, states, letters, h.from_state, h.to_state, h.south_letter, h.north_letter)
 
     kept_joined :
         (e f : Edge) → Inside l.states l.letters e → Inside u.states u.letters f → (b : Bool) →
@@ -87,14 +93,20 @@ module _ (l u : Meaning) (lv : Valid l) (uv : Valid u) where
         cond b (held_edge c ((stack l u).edge i)) None ≡ (stack l u).edge i
     held_slot i true within = kept _ _ _ _ refl refl
     held_slot i false within =
-        let past : l.slots * u.slots ≤ i = subst (λ n. n ≤ i) counts.slots (ltb-false i c.slots within) in
+        let past : l.slots * u.slots ≤ i = subst (λ n. n ≤ i) slots (ltb-false i c.slots within) in
         sym (stack_beyond i past)
 
     -- so a stack held to its counts is the stack
     pub stack_is_held : stack_held c l u ≡ stack l u
     stack_is_held = λ k. record {
-      states = counts.states k;
-      letters = counts.letters k;
-      slots = counts.slots k;
+      states = states k;
+      letters = letters k;
+      slots = slots k;
       edge = fun_ext (λ i. held_slot i _ refl) k;
     }
+
+-- the states of an edge that was answered
+pub states_below : (m : Meaning) (v : Valid m) (i : ℕ) (e : Edge) → Some e ≡ m.edge i → (from e < 4096) × (to e < 4096)
+states_below m v i e told =
+    let h = v.inside i e (sym told) in
+    (omega (arith, h.from_state, v.few_states), omega (arith, h.to_state, v.few_states))

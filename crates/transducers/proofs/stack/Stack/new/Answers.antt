@@ -6,4 +6,5 @@ pub returns : goal.returns
 returns g c =
     let l = g.met.L.Transducer.valid c.args.lower in
     let u = g.met.U.Transducer.valid c.args.upper in
-    (refl, refl, stack_is_held _ _ l u c.in_ok-counts.counts c.in_ok-counts.ensures)
+    let e = c.in_ok-counts.ensures in
+    (refl, refl, stack_is_held _ _ l u c.in_ok-counts.counts e.states e.letters e.slots)
