@@ -1,6 +1,7 @@
 // Opening dockets, and filing papers in one.
 use crate::answer::Answer;
 use crate::reading::set_of;
+use crate::times::times_done;
 use piles::SetDocket;
 use std::alloc::Global;
 
@@ -35,11 +36,7 @@ pub extern "C" fn bench_open(heap: Global, text: &[u8], times: u32) -> u32 {
     let Some(read) = set_of(heap, text) else {
         return 0;
     };
-    let mut opened: u32 = 0;
-    for _ in 0..times {
-        if SetDocket::of_set(heap, read.set, &read.tiles).is_ok() {
-            opened = opened.wrapping_add(1);
-        }
-    }
-    opened
+    times_done(times, || {
+        SetDocket::of_set(heap, read.set, &read.tiles).is_ok()
+    })
 }

@@ -4,6 +4,7 @@
 mod answer;
 mod filing;
 mod reading;
+mod times;
 mod trims;
 
 pub use answer::Answer;

@@ -1,5 +1,6 @@
 // Trimming stacks.
 use crate::reading::set_of;
+use crate::times::times_done;
 use bottoms::{ListTransducer, Tile};
 use std::alloc::Global;
 use transducers::{Stack, Transducer};
@@ -79,12 +80,7 @@ pub extern "C" fn bench_trim_four(heap: Global, text: &[u8], times: u32) -> u32 
     let Some(tiles) = tiles_of(heap, text) else {
         return 0;
     };
-    let mut done: u32 = 0;
-    for _ in 0..times {
-        let trimmed = four_high(heap, &tiles).and_then(|pile| Trim::new(heap, pile).ok());
-        if trimmed.is_some() {
-            done = done.wrapping_add(1);
-        }
-    }
-    done
+    times_done(times, || {
+        four_high(heap, &tiles).is_some_and(|pile| Trim::new(heap, pile).is_ok())
+    })
 }

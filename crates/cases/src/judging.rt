@@ -12,10 +12,10 @@ fn file_papers<R: AllocGlobal + Print>(
     mut docket: Option<SetDocket>,
     cursor: &mut Cursor<'_>,
 ) -> anyhow::Result<()> {
-    // Rust has no From of u32 for usize.
     let count = cursor.byte().unwrap_or(0);
     for k in 1..=u32::from(count) {
         let size = cursor.word().unwrap_or(0);
+        // Rust has no From of u32 for usize.
         let paper = cursor.part(size as usize);
         if let Some(docket) = &mut docket {
             rt.println(paper_line(rt.alloc(), k, docket.file(paper))?)?;
@@ -24,7 +24,7 @@ fn file_papers<R: AllocGlobal + Print>(
     Ok(())
 }
 
-// The docket of a set text, or none, with the line that says why.
+// The docket of a set text, or none, with the line that says why. judge ends there, and here the next case follows.
 fn open_case<R: AllocGlobal + Print>(rt: &R, text: &[u8]) -> anyhow::Result<Option<SetDocket>> {
     let heap = rt.alloc();
     let mut tiles = vec![in heap; Tile::default(); MOST_TILES]?;

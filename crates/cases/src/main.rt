@@ -19,6 +19,7 @@ fn run<R: Files + AllocGlobal + Print>(rt: &R) -> anyhow::Result<()> {
         let Some(size) = cursor.word().filter(|&size| size != END) else {
             break;
         };
+        // Rust has no From of u32 for usize.
         let text = cursor.part(size as usize);
         println!(rt; "case {k}")?;
         judge_case(rt, text, &mut cursor)?;

@@ -30,7 +30,7 @@ pub(crate) struct Tallies {
     table: [Tally; 5],
 }
 
-// The place in the table of the record of a kind, or of none.
+// The place in the table of the record of a kind, or of none: an order of records, which the numbers of kinds do not say.
 fn entry(kind: Option<Kind>) -> usize
     ensures { result ≡ entry_of kind }
 {

@@ -5,6 +5,7 @@ use Rattle.transducers.specs.Meaning.{Meaning}
 use Rattle.transducers.specs.Stacking.{stack}
 use Rattle.trimming.specs.Trimming.{Largest, States, kept_set, trim}
 use Rattle.transducers.specs.Turning.{turn}
+pub use Rattle.piles.specs.PileKinds.{numbered_pile}
 use Rattle.piles.specs.declared.pile.Pile.{Pile}
 use Rattle.piles.specs.declared.pile.Pile.TheVariants as pile
 use Rattle.piles.specs.declared.pile_kind.PileKind.{PileKind}

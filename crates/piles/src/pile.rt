@@ -10,7 +10,8 @@ use std::alloc::Global;
 use transducers::{Stack, Transducer, Turn};
 use trimming::Trim;
 
-// A pile over bottoms of one type. A question matches on the kind: a `dyn` value would ask each slot through a table.
+// A pile over bottoms of one type. A layer holds the one below by value, so each kind of pile is a type of its own, and a
+// question matches on it.
 #[derive(Drop)]
 pub enum Pile<B> {
     Plain(B),
@@ -36,7 +37,8 @@ fn four_high<B: Transducer + Drop>(a: B, b: B, c: B, d: B) -> Result<Pile<B>, Pi
     Ok(Pile::FourHigh(Stack::new(lower, upper)?))
 }
 
-// The pile of a kind over four copies of a bottom, of which it takes as many as it wants.
+// The pile of a kind over four copies of a bottom, of which it takes as many as it wants. Callers are promised the four
+// as parameters.
 pub fn make_pile<B: Transducer + Drop>(
     heap: Global,
     kind: PileKind,

@@ -13,7 +13,7 @@ pub enum PileKind {
     FourHigh,
 }
 
-// A number that names no pile.
+// A number that names no pile. An error of its own, as that of a number that no kind of paper has: callers print either.
 #[derive(Clone, Copy, PartialEq, Eq, Debug)]
 pub struct UnknownPile(pub u8);
 

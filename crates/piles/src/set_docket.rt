@@ -17,7 +17,8 @@ use rules::{DocketFault, Ends};
 use setgrammar::SetText;
 use std::alloc::Global;
 
-// Over tiles, or over a row of the catalogue. A call matches on which: a `dyn` value would ask slots through a table.
+// Over tiles, or over a row of the catalogue. A docket holds its pile by value, so each is a type of its own, and a call
+// matches on which.
 #[derive(Drop)]
 pub enum SetDocket {
     Tiles(Docket<Pile<ListTransducer>>),

@@ -51,7 +51,7 @@ pub fn paper_line(
     }
 }
 
-// The line of a pile that was refused with this number, as `PileFault::number` gives it.
+// The line of a pile that was refused with this number, as `PileFault::number` gives it. Callers are promised any number.
 pub fn pile_line(heap: Global, number: u8) -> Result<String, AllocError>
     ensures { IfOk result (λ s. string_bytes s ≡ pile_refused number) }
 {
