@@ -2,6 +2,7 @@
 #![tactic(auto)]
 
 mod fault;
+mod first;
 mod judging;
 mod ranks;
 mod rows;

@@ -5,6 +5,7 @@ ghost use Rattle.papers.specs.Paper.{held};
 ghost use Rattle.rules.specs.Ranks.{height, rank_fits, ranking, slot_falls};
 
 use crate::fault::DocketFault;
+use crate::first::first_fault;
 use crate::judging::Weighing;
 use transducers::Transducer;
 
@@ -50,10 +51,7 @@ impl<P: Transducer> Weighing<'_, P> {
             ≡ first (slot_falls (P.meaning self.entry.pile.now) (held self.entry.paper.now).numbers)
             (P.meaning self.entry.pile.now).slots }
     {
-        for i in 0..self.pile.slots() {
-            self.fall_in(i)?;
-        }
-        Ok(())
+        first_fault(self.pile.slots(), |i| self.fall_in(i))
     }
 
     // The rule of a ranking; it answers the height.

@@ -7,6 +7,7 @@ ghost use Rattle.rules.specs.Torus.{width as width_of, rows as rows_of};
 ghost use Rattle.rules.specs.declared.fault.DocketFault.TheVariants.{Shape};
 
 use crate::fault::DocketFault;
+use crate::first::first_fault;
 use crate::judging::Weighing;
 use transducers::Transducer;
 
@@ -91,10 +92,7 @@ impl<'a, P: Transducer> Torus<'a, P> {
             ≡ first (torus_row (P.meaning self.now.weighing.pile.now) (held self.now.weighing.paper.now).numbers)
             self.now.rows }
     {
-        for k in 0..self.rows {
-            self.close_row(k)?;
-        }
-        Ok(())
+        first_fault(self.rows, |k| self.close_row(k))
     }
 
     fn meet_rows(&self) -> Result<(), DocketFault>
@@ -102,10 +100,7 @@ impl<'a, P: Transducer> Torus<'a, P> {
             ≡ first (meets_above (P.meaning self.now.weighing.pile.now) (held self.now.weighing.paper.now).numbers)
             (self.now.width * self.now.rows) }
     {
-        for i in 0..self.width * self.rows {
-            self.meet_above(i)?;
-        }
-        Ok(())
+        first_fault(self.width * self.rows, |i| self.meet_above(i))
     }
 }
 
