@@ -46,14 +46,6 @@ impl<P: Transducer> Weighing<'_, P> {
         Ok(())
     }
 
-    fn fall_everywhere(self) -> Result<(), DocketFault>
-        ensures { result
-            ≡ first (slot_falls (P.meaning self.entry.pile.now) (held self.entry.paper.now).numbers)
-            (P.meaning self.entry.pile.now).slots }
-    {
-        first_fault(self.pile.slots(), |i| self.fall_in(i))
-    }
-
     // The rule of a ranking; it answers the height.
     pub(crate) fn ranking(self) -> Result<u16, DocketFault>
         ensures { result
@@ -64,7 +56,7 @@ impl<P: Transducer> Weighing<'_, P> {
             return Err(DocketFault::RankCount);
         }
         let height = self.highest_rank()?;
-        self.fall_everywhere()?;
+        first_fault(self.pile.slots(), |i| self.fall_in(i))?;
         Ok(height)
     }
 }

@@ -86,22 +86,6 @@ impl<'a, P: Transducer> Torus<'a, P> {
     {
         self.weighing.close_row(2 + k * self.width, self.width)
     }
-
-    fn close_rows(&self) -> Result<(), DocketFault>
-        ensures { result
-            ≡ first (torus_row (P.meaning self.now.weighing.pile.now) (held self.now.weighing.paper.now).numbers)
-            self.now.rows }
-    {
-        first_fault(self.rows, |k| self.close_row(k))
-    }
-
-    fn meet_rows(&self) -> Result<(), DocketFault>
-        ensures { result
-            ≡ first (meets_above (P.meaning self.now.weighing.pile.now) (held self.now.weighing.paper.now).numbers)
-            (self.now.width * self.now.rows) }
-    {
-        first_fault(self.width * self.rows, |i| self.meet_above(i))
-    }
 }
 
 impl<P: Transducer> Weighing<'_, P> {
@@ -110,7 +94,7 @@ impl<P: Transducer> Weighing<'_, P> {
         ensures { result ≡ torus (P.meaning self.entry.pile.now) (held self.entry.paper.now).numbers }
     {
         let torus = Torus::new(self)?;
-        torus.close_rows()?;
-        torus.meet_rows()
+        first_fault(torus.rows, |k| torus.close_row(k))?;
+        first_fault(torus.width * torus.rows, |i| torus.meet_above(i))
     }
 }
