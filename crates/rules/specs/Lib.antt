@@ -5,4 +5,5 @@ pub mod Rows
 pub mod Shown
 pub mod Torus
 pub mod Walks
+pub mod Weighing
 pub mod Widths

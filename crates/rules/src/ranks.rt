@@ -1,8 +1,8 @@
 // Rankings: a rank for each state, which falls along every edge.
 ghost use Rattle.std.specs.Prelude.{◌≡◌, length, slice_index};
 ghost use Rattle.papers.specs.First.{answered, first};
-ghost use Rattle.papers.specs.Paper.{held};
 ghost use Rattle.rules.specs.Ranks.{height, rank_fits, ranking, slot_falls};
+ghost use Rattle.rules.specs.Weighing.{numbers_of};
 
 use crate::fault::DocketFault;
 use crate::first::first_fault;
@@ -13,8 +13,7 @@ impl<P: Transducer> Weighing<'_, P> {
     // The rank of a state, which is at most 65,535.
     fn rank_of(self, state: u32) -> Result<u16, DocketFault>
         ensures { result
-            ≡ answered (rank_fits (held self.entry.paper.now).numbers state)
-            (slice_index (held self.entry.paper.now).numbers state) }
+            ≡ answered (rank_fits (numbers_of self.entry) state) (slice_index (numbers_of self.entry) state) }
     {
         u16::try_from(self.paper.number(state)).map_err(|_| DocketFault::HighRank(state))
     }
@@ -22,9 +21,8 @@ impl<P: Transducer> Weighing<'_, P> {
     // The greatest rank.
     fn highest_rank(self) -> Result<u16, DocketFault>
         ensures { result
-            ≡ answered
-            (first (rank_fits (held self.entry.paper.now).numbers) (length (held self.entry.paper.now).numbers))
-            (height (held self.entry.paper.now).numbers) }
+            ≡ answered (first (rank_fits (numbers_of self.entry)) (length (numbers_of self.entry)))
+            (height (numbers_of self.entry)) }
     {
         let mut high = 0;
         for state in 0..self.paper.len() {
@@ -35,7 +33,7 @@ impl<P: Transducer> Weighing<'_, P> {
 
     // The rank falls along the edge in slot i, if there is one.
     fn fall_in(self, i: u32) -> Result<(), DocketFault>
-        ensures { result ≡ slot_falls (P.meaning self.entry.pile.now) (held self.entry.paper.now).numbers i }
+        ensures { result ≡ slot_falls (P.meaning self.entry.pile.now) (numbers_of self.entry) i }
     {
         let Some((from, to, _, _)) = self.pile.slot(i) else {
             return Ok(());
@@ -49,8 +47,8 @@ impl<P: Transducer> Weighing<'_, P> {
     // The rule of a ranking; it answers the height.
     pub(crate) fn ranking(self) -> Result<u16, DocketFault>
         ensures { result
-            ≡ answered (ranking (P.meaning self.entry.pile.now) (held self.entry.paper.now).numbers)
-            (height (held self.entry.paper.now).numbers) }
+            ≡ answered (ranking (P.meaning self.entry.pile.now) (numbers_of self.entry))
+            (height (numbers_of self.entry)) }
     {
         if self.paper.len() != self.pile.states() {
             return Err(DocketFault::RankCount);

@@ -1,8 +1,8 @@
 // Rows of cells: walks in the transducer's graph, and closed walks.
 ghost use Rattle.std.specs.Prelude.{◌≡◌, ◌+◌, ◌<◌, Ok, Err, MatchResult};
-ghost use Rattle.papers.specs.Paper.{held};
 ghost use Rattle.rules.specs.Rows.{cell, cell_meets, closed_row, ring, row, strip};
 ghost use Rattle.rules.specs.Walks.{GoesOn, IsWalk, state_of};
+ghost use Rattle.rules.specs.Weighing.{numbers_of};
 
 use crate::fault::DocketFault;
 use crate::judging::Weighing;
@@ -18,7 +18,7 @@ struct Walk {
 impl<P: Transducer> Weighing<'_, P> {
     // The edge that the cell at a place names.
     pub(crate) fn edge_at(self, place: u32) -> Option<(u32, u32, u32, u32)>
-        ensures { result ≡ cell (P.meaning self.entry.pile.now) (held self.entry.paper.now).numbers place }
+        ensures { result ≡ cell (P.meaning self.entry.pile.now) (numbers_of self.entry) place }
     {
         self.pile.slot(self.paper.number(place))
     }
@@ -26,9 +26,9 @@ impl<P: Transducer> Weighing<'_, P> {
     // A walk with one cell more, which leaves the state that the walk is in.
     fn step(self, place: u32, walk: Option<Walk>) -> Result<Walk, DocketFault>
         ensures { MatchResult result
-            (GoesOn (P.meaning self.entry.pile.now) (held self.entry.paper.now).numbers place walk)
-            (λ f. cell_meets (cell (P.meaning self.entry.pile.now) (held self.entry.paper.now).numbers place)
-            (state_of walk) place ≡ Err f) }
+            (GoesOn (P.meaning self.entry.pile.now) (numbers_of self.entry) place walk)
+            (λ f. cell_meets (cell (P.meaning self.entry.pile.now) (numbers_of self.entry) place) (state_of walk) place
+            ≡ Err f) }
     {
         // `ok_or` and `?` take a strip a twentieth longer.
         let Some((from, to, _, _)) = self.edge_at(place) else {
@@ -48,9 +48,9 @@ impl<P: Transducer> Weighing<'_, P> {
     fn walk_row(self, start: u32, width: u32) -> Result<Option<Walk>, DocketFault>
         requires { start + width < 4294967296 }
         ensures { MatchResult result
-            (λ walk. (row (P.meaning self.entry.pile.now) (held self.entry.paper.now).numbers start width ≡ Ok tt)
-            × IsWalk (P.meaning self.entry.pile.now) (held self.entry.paper.now).numbers start width walk)
-            (λ f. row (P.meaning self.entry.pile.now) (held self.entry.paper.now).numbers start width ≡ Err f) }
+            (λ walk. (row (P.meaning self.entry.pile.now) (numbers_of self.entry) start width ≡ Ok tt)
+            × IsWalk (P.meaning self.entry.pile.now) (numbers_of self.entry) start width walk)
+            (λ f. row (P.meaning self.entry.pile.now) (numbers_of self.entry) start width ≡ Err f) }
     {
         let mut walk = None;
         for j in 0..width {
@@ -61,7 +61,7 @@ impl<P: Transducer> Weighing<'_, P> {
 
     // The rule of a strip: a walk.
     pub(crate) fn strip(self) -> Result<(), DocketFault>
-        ensures { result ≡ strip (P.meaning self.entry.pile.now) (held self.entry.paper.now).numbers }
+        ensures { result ≡ strip (P.meaning self.entry.pile.now) (numbers_of self.entry) }
     {
         self.walk_row(0, self.paper.len())?;
         Ok(())
@@ -70,8 +70,7 @@ impl<P: Transducer> Weighing<'_, P> {
     // A row that closes.
     pub(crate) fn close_row(self, start: u32, width: u32) -> Result<(), DocketFault>
         requires { start + width < 4294967296 }
-        ensures { result
-            ≡ closed_row (P.meaning self.entry.pile.now) (held self.entry.paper.now).numbers start width }
+        ensures { result ≡ closed_row (P.meaning self.entry.pile.now) (numbers_of self.entry) start width }
     {
         match self.walk_row(start, width)? {
             Some(walk) if walk.state != walk.origin => Err(DocketFault::Open(start + width - 1)),
@@ -81,7 +80,7 @@ impl<P: Transducer> Weighing<'_, P> {
 
     // The rule of a ring: a closed walk.
     pub(crate) fn ring(self) -> Result<(), DocketFault>
-        ensures { result ≡ ring (P.meaning self.entry.pile.now) (held self.entry.paper.now).numbers }
+        ensures { result ≡ ring (P.meaning self.entry.pile.now) (numbers_of self.entry) }
     {
         self.close_row(0, self.paper.len())
     }

@@ -1,9 +1,9 @@
 // Toruses: periodic tilings. Rows close, and each meets the row above; above the top row comes the bottom row.
 ghost use Rattle.std.specs.Prelude.{◌≡◌, ◌+◌, ◌*◌, ◌<◌, ◌≤◌, true, false, MatchResult};
 ghost use Rattle.papers.specs.First.{first};
-ghost use Rattle.papers.specs.Paper.{held};
 ghost use Rattle.rules.specs.Torus.{above, fair_shape, fair_side, meets_above, torus, torus_row};
 ghost use Rattle.rules.specs.Torus.{width as width_of, rows as rows_of};
+ghost use Rattle.rules.specs.Weighing.{numbers_of};
 ghost use Rattle.rules.specs.declared.fault.DocketFault.TheVariants.{Shape};
 
 use crate::fault::DocketFault;
@@ -17,8 +17,8 @@ struct Torus<'a, P> {
     weighing: Weighing<'a, P>,
     width: u32,
     rows: u32,
-    ghost is_width: { width ≡ width_of (held weighing.paper.now).numbers },
-    ghost is_rows: { rows ≡ rows_of (held weighing.paper.now).numbers },
+    ghost is_width: { width ≡ width_of (numbers_of weighing) },
+    ghost is_rows: { rows ≡ rows_of (numbers_of weighing) },
     ghost few_columns: { width ≤ 8062 },
     ghost few_rows: { rows ≤ 8062 },
 }
@@ -33,8 +33,8 @@ impl<'a, P: Transducer> Torus<'a, P> {
     // The torus of a paper, if its width, row count and cells fit together.
     fn new(weighing: Weighing<'a, P>) -> Result<Torus<'a, P>, DocketFault>
         ensures { MatchResult result
-            (λ t. (t.weighing ≡ weighing.entry) × (fair_shape (held weighing.entry.paper.now).numbers ≡ true))
-            (λ f. (f ≡ Shape) × (fair_shape (held weighing.entry.paper.now).numbers ≡ false)) }
+            (λ t. (t.weighing ≡ weighing.entry) × (fair_shape (numbers_of weighing.entry) ≡ true))
+            (λ f. (f ≡ Shape) × (fair_shape (numbers_of weighing.entry) ≡ false)) }
     {
         let paper = weighing.paper;
         let width = paper.number(0);
@@ -57,7 +57,7 @@ impl<'a, P: Transducer> Torus<'a, P> {
     // The cell above cell i.
     fn above(&self, i: u32) -> u32
         requires { i < self.now.width * self.now.rows }
-        ensures { result ≡ above (held self.now.weighing.paper.now).numbers i }
+        ensures { result ≡ above (numbers_of self.now.weighing) i }
     {
         let size = self.width * self.rows;
         let above = i + self.width;
@@ -68,7 +68,7 @@ impl<'a, P: Transducer> Torus<'a, P> {
     fn meet_above(&self, i: u32) -> Result<(), DocketFault>
         requires { i < self.now.width * self.now.rows }
         ensures { result
-            ≡ meets_above (P.meaning self.now.weighing.pile.now) (held self.now.weighing.paper.now).numbers i }
+            ≡ meets_above (P.meaning self.now.weighing.pile.now) (numbers_of self.now.weighing) i }
     {
         let low = self.weighing.edge_at(2 + i);
         let high = self.weighing.edge_at(2 + self.above(i));
@@ -82,7 +82,7 @@ impl<'a, P: Transducer> Torus<'a, P> {
     fn close_row(&self, k: u32) -> Result<(), DocketFault>
         requires { k < self.now.rows }
         ensures { result
-            ≡ torus_row (P.meaning self.now.weighing.pile.now) (held self.now.weighing.paper.now).numbers k }
+            ≡ torus_row (P.meaning self.now.weighing.pile.now) (numbers_of self.now.weighing) k }
     {
         self.weighing.close_row(2 + k * self.width, self.width)
     }
@@ -91,7 +91,7 @@ impl<'a, P: Transducer> Torus<'a, P> {
 impl<P: Transducer> Weighing<'_, P> {
     // The rule of a torus.
     pub(crate) fn torus(self) -> Result<(), DocketFault>
-        ensures { result ≡ torus (P.meaning self.entry.pile.now) (held self.entry.paper.now).numbers }
+        ensures { result ≡ torus (P.meaning self.entry.pile.now) (numbers_of self.entry) }
     {
         let torus = Torus::new(self)?;
         first_fault(torus.rows, |k| torus.close_row(k))?;

@@ -1,8 +1,8 @@
 use Rattle.std.proofs.Common.{sym, refl}
 use Rattle.std.proofs.lemmas.Result.{err_from_is_err_and}
-use Rattle.papers.specs.Paper.{held}
 use Rattle.papers.proofs.Order.{first_found, first_none, first_more}
 use Rattle.rules.specs.Rows.{column}
+use Rattle.rules.specs.Weighing.{numbers_of}
 use Rattle.rules.proofs.Steps.{gone_on, stopped}
 use Rattle.rules.proofs.judging.Weighing.walk_row.Goals as goal
 
@@ -12,7 +12,7 @@ loop-j-init g c = (sym (first_none _), refl)
 pub returns-in_err-step : goal.returns-in_err-step
 returns-in_err-step g c =
     let m = g.P.Transducer.meaning c.args.self.pile.now in
-    let xs = (held c.args.self.paper.now).numbers in
+    let xs = numbers_of c.args.self in
     let b = c.args.start in
     let inv = c.loop-j.invariant in
     let p = err_from_is_err_and c.from_residual.result c.from_residual.ensures.1 in
@@ -22,7 +22,7 @@ returns-in_err-step g c =
 pub loop-j-preserved : goal.loop-j-preserved
 loop-j-preserved g c =
     let m = g.P.Transducer.meaning c.args.self.pile.now in
-    let xs = (held c.args.self.paper.now).numbers in
+    let xs = numbers_of c.args.self in
     let b = c.args.start in
     let j = c.loop-j.j in
     let inv = c.loop-j.invariant in
