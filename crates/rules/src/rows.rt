@@ -53,8 +53,8 @@ impl<P: Transducer> Weighing<'_, P> {
             (λ f. row (P.meaning self.entry.pile.now) (numbers_of self.entry) start width ≡ Err f) }
     {
         let mut walk = None;
-        for j in 0..width {
-            walk = Some(self.step(start + j, walk)?);
+        for place in start..start + width {
+            walk = Some(self.step(place, walk)?);
         }
         Ok(walk)
     }
