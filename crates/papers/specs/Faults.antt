@@ -13,6 +13,15 @@ block_fault_number (block.Kind at) = 14
 block_fault_number (block.Count at) = 15
 block_fault_number (block.Padding at) = 16
 
+-- the block that a fault of a block blames: all but the length's blame one
+abbrev pub block_blamed : BlockFault → Option ℕ
+block_blamed block.Length = None
+block_blamed (block.Check at) = Some at
+block_blamed (block.Place at) = Some at
+block_blamed (block.Kind at) = Some at
+block_blamed (block.Count at) = Some at
+block_blamed (block.Padding at) = Some at
+
 abbrev pub block_fault_place : BlockFault → ℕ
 block_fault_place block.Length = 0
 block_fault_place (block.Check at) = at

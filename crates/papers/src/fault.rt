@@ -1,7 +1,7 @@
 // Why a block or a paper is not taken.
 ghost use Rattle.std.specs.Prelude.{◌≡◌};
 ghost use Rattle.papers.specs.declared.fault.PaperFault.TheVariants.{Block as of_block};
-ghost use Rattle.papers.specs.Faults.{block_fault, block_fault_number, block_fault_place, paper_fault_number, paper_fault_place};
+ghost use Rattle.papers.specs.Faults.{block_blamed, block_fault, block_fault_number, block_fault_place, paper_fault_number, paper_fault_place};
 
 // The first fault of a block. All but `Length` hold the block's due place.
 #[derive(Clone, Copy, PartialEq, Eq, Debug)]
@@ -28,17 +28,25 @@ impl BlockFault {
         }
     }
 
-    pub fn place(self) -> u16
-        ensures { result ≡ block_fault_place self }
+    // The block that it blames, if it blames one.
+    pub fn block(self) -> Option<u16>
+        ensures { result ≡ block_blamed self }
     {
         match self {
-            BlockFault::Length => 0,
+            BlockFault::Length => None,
             BlockFault::Check(block)
             | BlockFault::Place(block)
             | BlockFault::Kind(block)
             | BlockFault::Count(block)
-            | BlockFault::Padding(block) => block,
+            | BlockFault::Padding(block) => Some(block),
         }
+    }
+
+    // The block that it blames, or 0.
+    pub fn place(self) -> u16
+        ensures { result ≡ block_fault_place self }
+    {
+        self.block().unwrap_or(0)
     }
 }
 
@@ -52,7 +60,7 @@ pub enum PaperFault {
 
 impl PaperFault {
     // The fault of a block, if it is one.
-    fn block(self) -> Option<BlockFault>
+    pub fn block_fault(self) -> Option<BlockFault>
         ensures { result ≡ block_fault self }
     {
         match self {
@@ -64,13 +72,13 @@ impl PaperFault {
     pub fn number(self) -> u8
         ensures { result ≡ paper_fault_number self }
     {
-        self.block().map_or(11, BlockFault::number)
+        self.block_fault().map_or(11, BlockFault::number)
     }
 
     pub fn place(self) -> u16
         ensures { result ≡ paper_fault_place self }
     {
-        self.block().map_or(0, BlockFault::place)
+        self.block_fault().map_or(0, BlockFault::place)
     }
 }
 
