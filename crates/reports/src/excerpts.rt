@@ -2,7 +2,7 @@
 ghost use Rattle.std.specs.Prelude.{◌≡◌, ◌+◌, ◌*◌, ◌/◌, ◌%◌, ◌^◌, ◌<◌, ◌≤◌, ◌==◌, length, position, MatchOption};
 ghost use Rattle.reports.specs.Excerpts.{blame_of, IsCut, LineStart, LineEnd, NoLine, IsBlamed, Excerpted, OnlyExcerpt};
 
-use papers::{BLOCK_BYTES, BLOCK_NUMBERS, BlockFault, PaperFault};
+use papers::{BLOCK_BYTES, BLOCK_NUMBERS, BlockFault};
 use rules::DocketFault;
 use setgrammar::TextFault;
 
@@ -34,17 +34,10 @@ fn blamed(refusal: Refusal) -> Blame
         Refusal::Set(fault) => fault
             .position()
             .map_or(Blame::Nothing, |at| Blame::Line(at.line)),
-        Refusal::Paper(
-            DocketFault::Paper(
-                PaperFault::Block(
-                    BlockFault::Check(block)
-                    | BlockFault::Place(block)
-                    | BlockFault::Kind(block)
-                    | BlockFault::Count(block)
-                    | BlockFault::Padding(block),
-                ),
-            ),
-        ) => Blame::Block(block),
+        Refusal::Paper(DocketFault::Paper(fault)) => fault
+            .block_fault()
+            .and_then(BlockFault::block)
+            .map_or(Blame::Nothing, Blame::Block),
         Refusal::Paper(
             DocketFault::HighRank(place)
             | DocketFault::NoEdge(place)
