@@ -1,7 +1,8 @@
 -- No state of set A can go on in both directions, so trimming takes every edge. Assumes nothing.
-use Rattle.std.proofs.Common.{◌≡◌, ℕ, zero, suc, ◌+◌, ◌<◌, ◌≤◌, true, Some, None, Option, refl, subst, inl, inr, arith, lit<, lit≤}
+use Rattle.std.proofs.Common.{◌≡◌, ℕ, zero, suc, ◌+◌, ◌<◌, ◌≤◌, true, Some, None, Option, refl, sym, ◌∙◌, subst, inl, inr, arith, lit<, lit≤}
 use mathlib.Core.Path.{fun_ext}
 use Rattle.std.proofs.lemmas.Bool.{cases_Bool, cond-false, false≢true, le-ltb}
+use Rattle.std.proofs.lemmas.Option.{none-some, same_Some}
 use Rattle.transducers.specs.Meaning.{Edge, from, to}
 use Rattle.trimming.specs.Trimming.{Largest, States, Thriving, kept_edge}
 use Rattle.samples.specs.Samples.{set_a, no_states}
@@ -11,11 +12,11 @@ abbrev Rises : Edge → Type 0
 Rises e = (from e < to e) × (to e ≤ 2)
 
 edge_rises : (i : ℕ) (e : Edge) → set_a.edge i ≡ Some e → Rises e
-edge_rises zero e is = let same : ◌≡◌ {A = Edge} (0, 1, 0, 0) e = cc in subst Rises same (lit< tt, lit≤ tt)
-edge_rises (suc zero) e is = let same : ◌≡◌ {A = Edge} (1, 2, 0, 0) e = cc in subst Rises same (lit< tt, lit≤ tt)
+edge_rises zero e is = subst Rises (same_Some (0, 1, 0, 0) e is) (lit< tt, lit≤ tt)
+edge_rises (suc zero) e is = subst Rises (same_Some (1, 2, 0, 0) e is) (lit< tt, lit≤ tt)
 edge_rises (suc (suc i)) e is =
     let none : set_a.edge (suc (suc i)) ≡ None = cond-false _ _ None (le-ltb (suc (suc i)) 2 (omega arith)) in
-    let z : ◌≡◌ {A = ℕ} 0 1 = cc in absurd (omega arith)
+    absurd (none-some e (sym none ∙ is))
 
 -- a set that thrives would have a higher state for each of its states
 nothing_thrives : (S : States) → Thriving set_a S → (n q : ℕ) → 3 ≤ n + q → S q ≡ true → ⊥

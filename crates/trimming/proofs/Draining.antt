@@ -13,7 +13,7 @@ use Rattle.trimming.specs.Linking.{at, links, times_in}
 use Rattle.trimming.specs.Trimming.{States, listed}
 use Rattle.trimming.specs.declared.graph.Graph.{Graph}
 use Rattle.trimming.proofs.Linking.{at_read, length-at, length-lists}
-use Rattle.trimming.proofs.Times.{one_at, one_comm, one_same, one_other, sum_has, sum_ones, sum_plus, sum_some, times-cons, times_push}
+use Rattle.trimming.proofs.Times.{not_past, one_at, one_comm, one_same, one_other, sum_has, sum_ones, sum_plus, sum_some, times-cons, times_push}
 
 -- a drain under way: a state's count is of its links to states that stand, and each set that lasts stands
 pub record Draining (ls : List (List ℕ)) (counts going : List ℕ) : Type 0 where
@@ -34,10 +34,10 @@ one_none : (n : ℕ) → n ≡ 0 → one_if_some n ≡ 0
 one_none n none = ap (λ b. cond b 1 0) (le-ltb 0 n (omega arith))
 
 some_one : (n : ℕ) → 1 ≤ one_if_some n → 1 ≤ n
-some_one n one = elim (cases_lt 0 n) [ inl some ↦ some | inr none ↦ absurd (omega (arith, one_none n (omega arith))) ]
+some_one n one = not_past 0 n (λ none. omega (arith, one_none n (omega arith)))
 
 some_of : (n : ℕ) → (n ≡ 0 → ⊥) → 1 ≤ n
-some_of n other = elim (cases_lt 0 n) [ inl some ↦ some | inr none ↦ absurd (other (omega arith)) ]
+some_of n other = not_past 0 n (λ none. other (omega arith))
 
 -- the states from a on that have no link
 abbrev pub unlinked : ℕ → List ℕ → List ℕ
@@ -84,10 +84,7 @@ unlinked_past (x ∷ xs) a q past = unlinked_later x xs a q (λ same. omega arit
 -- a state with a link is in the list
 pub link_inside : (ls : List (List ℕ)) (p q : ℕ) → 1 ≤ links ls p q → p < length ls
 link_inside ls p q some =
-    elim (cases_lt p (length ls)) [
-      | inl lt ↦ lt
-      | inr ge ↦ let none : links ls p q ≡ 0 = ap (λ xs. times_in xs q) (get_or_past ls p [] ge) in absurd (omega arith)
-    ]
+    not_past p (length ls) (λ past. let none : links ls p q ≡ 0 = ap (λ xs. times_in xs q) (get_or_past ls p [] past) in omega arith)
 
 -- a state that is popped stood once more
 pub standing_pop : (counts going : List ℕ) (t q : ℕ) → standing counts (going ++ t ∷ []) q ≡ standing counts going q + one_at t q
@@ -95,11 +92,7 @@ standing_pop counts going t q = omega (arith, times_push going t q)
 
 -- a count that is not 0 is in the list
 pub count_inside : (counts : List ℕ) (q : ℕ) → 1 ≤ get_or counts q 0 → q < length counts
-count_inside counts q some =
-    elim (cases_lt q (length counts)) [
-      | inl lt ↦ lt
-      | inr ge ↦ absurd (omega (arith, get_or_past counts q 0 ge))
-    ]
+count_inside counts q some = not_past q (length counts) (λ past. omega (arith, get_or_past counts q 0 past))
 
 -- one link is taken from state x, which then has v
 module _ (counts : List ℕ) (x v : ℕ) (less : v + 1 ≡ get_or counts x 0) where
@@ -172,7 +165,7 @@ module _ (g : Graph) where
       beyond q past = omega (arith, long, unlinked_past counts 0 q (omega (arith, long)), one_none (get_or counts q 0) (get_or_past counts q 0 (omega (arith, long))))
 
       inside : (q : ℕ) → 1 ≤ standing counts (unlinked 0 counts) q → q < length (outs g)
-      inside q stands = elim (cases_lt q (length (outs g))) [ inl lt ↦ lt | inr ge ↦ absurd (omega (arith, beyond q ge)) ]
+      inside q stands = not_past q (length (outs g)) (λ past. omega (arith, beyond q past))
 
       once : (q : ℕ) → standing counts (unlinked 0 counts) q ≤ 1
       once q = elim (cases_lt q (length (outs g))) [ inl lt ↦ omega (arith, below q lt) | inr ge ↦ omega (arith, beyond q ge) ]

@@ -1,13 +1,15 @@
 -- The states from which links can be followed for ever both ways are the largest set that thrives. Assumes nothing.
 use Rattle.std.proofs.Common.{◌≡◌, ℕ, ◌<◌, ◌≤◌, zero, suc, Bool, true, ◌&&◌, ◌||◌, eqb, List, [], ◌∷◌, map, Some, refl, sym, ap, ◌∙◌, subst, inl, inr, arith}
 use mathlib.Core.Path.{fun_ext}
-use Rattle.std.proofs.lemmas.Bool.{and_from, and_parts, and_right, cases_lt, eq-eqb, eqb-true, or_cases, or_left, or_right}
+use Rattle.std.proofs.lemmas.Bool.{and_from, and_parts, and_right, eq-eqb, eqb-true, or_cases, or_left, or_right}
+use Rattle.std.proofs.lemmas.Option.{none-some}
 use Rattle.std.specs.Prelude.{zip}
 use Rattle.transducers.specs.Meaning.{Edge, Meaning, Valid, from, to}
 use Rattle.trimming.specs.Draining.{Lasting, Left, LinkTo}
 use Rattle.trimming.specs.Linking.{IsReverse, LinksOf, links}
 use Rattle.trimming.specs.Trimming.{EdgeIn, EdgeOut, Largest, States, listed}
 use Rattle.trimming.proofs.Linking.{edge_counted, edge_found}
+use Rattle.trimming.proofs.Times.{not_past}
 
 -- a link out of a state of both sets that leads into A leads into B: B lasts with one state more
 module _ (ls other : List (List ℕ)) (turned : IsReverse ls other) (A B : States) (one : Left ls A) (back : Left other B) where
@@ -27,11 +29,7 @@ module _ (ls other : List (List ℕ)) (turned : IsReverse ls other) (A B : State
 
 module _ (m : Meaning) (valid : Valid m) (out into : List (List ℕ)) (graph : LinksOf m m.slots out into) where
   within_slots : (i : ℕ) (e : Edge) → m.edge i ≡ Some e → i < m.slots
-  within_slots i e is =
-      elim (cases_lt i m.slots) [
-        | inl lt ↦ lt
-        | inr ge ↦ absurd (cc (is, valid.beyond i ge))
-      ]
+  within_slots i e is = not_past i m.slots (λ past. none-some e (sym (valid.beyond i past) ∙ is))
 
   counted : (i : ℕ) (e : Edge) → m.edge i ≡ Some e → (1 ≤ links out (from e) (to e)) × (1 ≤ links into (to e) (from e))
   counted i e is =

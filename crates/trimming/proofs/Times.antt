@@ -1,9 +1,13 @@
 -- How many times a list has a number, and sums over its numbers. Assumes nothing.
-use Rattle.std.proofs.Common.{◌≡◌, ℕ, ◌+◌, ◌≤◌, cond, eqb, List, [], ◌∷◌, ◌++◌, length, refl, sym, ap, ◌∙◌, inl, inr, arith}
+use Rattle.std.proofs.Common.{◌≡◌, ℕ, ◌+◌, ◌<◌, ◌≤◌, cond, eqb, List, [], ◌∷◌, ◌++◌, length, refl, sym, ap, ◌∙◌, inl, inr, arith}
 use Rattle.std.specs.Prelude.{sum_by}
 use Rattle.std.proofs.lemmas.Bool.{cases_eq, cases_lt, eq-eqb, ne_eqb}
 use Rattle.std.proofs.lemmas.List.Sums.{sum_by-cons, sum_by_push}
 use Rattle.trimming.specs.Linking.{times_in}
+
+-- a number that is not past another is below it
+pub not_past : (i n : ℕ) → (n ≤ i → ⊥) → i < n
+not_past i n not = elim (cases_lt i n) [ inl lt ↦ lt | inr past ↦ absurd (not past) ]
 
 -- one if two numbers are the same
 abbrev pub one_at : ℕ → ℕ → ℕ

@@ -1,8 +1,9 @@
 -- A trimmed transducer is one, and how it reads its list. Assumes nothing.
-use Rattle.std.specs.Prelude.{◌≡◌, ℕ, Bool, true, false, cond, ◌&&◌, List, Some, None, Option, slice_index_or}
+use Rattle.std.specs.Prelude.{◌≡◌, ℕ, ◌&&◌, List, Some, None, Option, slice_index_or}
 use Rattle.std.specs.Borrow.{Bor}
-use Rattle.std.proofs.Common.{sym, ap, arith}
+use Rattle.std.proofs.Common.{sym, ap}
 use Rattle.std.proofs.lemmas.List.{get_or_past, get_or_read}
+use Rattle.std.proofs.lemmas.Option.{cond_some}
 use Rattle.std.specs.Option.{option_map, unwrap_or}
 use Rattle.std.specs.Slice.{IsGetResult}
 use Rattle.transducers.specs.Meaning.{Edge, Meaning, Valid, from, to}
@@ -11,11 +12,7 @@ use Rattle.trimming.specs.Trimming.{States, kept_edge, trim}
 -- an edge that stays was there
 stayed : (K : States) (o : Option Edge) (e : Edge) → kept_edge K o ≡ Some e → o ≡ Some e
 stayed K None e is = is
-stayed K (Some f) e is = by (K (from f) && K (to f)) is
-  where
-    by : (b : Bool) → cond b (Some f) None ≡ Some e → Some f ≡ Some e
-    by true is = is
-    by false is = let z : ◌≡◌ {A = ℕ} 0 1 = cc in absurd (omega arith)
+stayed K (Some f) e is = ap Some (cond_some (K (from f) && K (to f)) f e is).1
 
 pub trim_valid : (m : Meaning) (K : States) → Valid m → Valid (trim m K)
 trim_valid m K valid = record {
