@@ -1,4 +1,5 @@
 pub mod Draining
 pub mod Linking
+pub mod Gathering
 pub mod Thriving
 pub mod Times

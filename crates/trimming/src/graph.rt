@@ -18,16 +18,14 @@ pub(crate) struct Graph {
     ghost reverse: { IsReverse (lists out.items) (lists into.items) },
 }
 
-// An empty list for each state, with room for so many. A plain loop: each list may want memory.
+// An empty list for each state, with room for so many.
 // Here and below, a `u32` is made a `usize` by `as`: Rust has no `From` there.
 fn empty_lists(heap: Global, states: u32, room: u32) -> Result<Vec<Vec<u32>>, AllocError>
     ensures { IfOk result (λ v. lists v.items ≡ replicate states []) }
 {
-    let mut lists = Vec::with_capacity(heap, states as usize)?;
-    for _state in 0..states {
-        lists.push(Vec::with_capacity(heap, room as usize)?)?;
-    }
-    Ok(lists)
+    (0..states)
+        .map(|_| Vec::with_capacity(heap, room as usize))
+        .try_collect(heap)
 }
 
 // Takes a link from a state each time that it is listed. One that has none left is to go too.
