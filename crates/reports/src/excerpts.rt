@@ -15,7 +15,7 @@ pub enum Refusal {
     Paper(DocketFault),
 }
 
-// What a refusal blames.
+// What a refusal blames. Nothing is one of four: each has its own part, and an `Option` of three would say no more.
 #[derive(Clone, Copy)]
 enum Blame {
     // a line of the text, counted from 1
