@@ -8,5 +8,5 @@ mod set_docket;
 
 pub use pile::{Pile, make_pile};
 pub use pile_fault::PileFault;
-pub use pile_kind::{PileKind, UnknownPile};
+pub use pile_kind::PileKind;
 pub use set_docket::SetDocket;

@@ -1,9 +1,8 @@
 // Why a pile is not made.
 ghost use Rattle.std.specs.Prelude.{◌≡◌};
 ghost use Rattle.piles.specs.PileFaults.{of_list, pile_fault_number};
-ghost use Rattle.piles.specs.declared.pile_fault.PileFault.TheVariants.{List, Memory, Row, Stack};
+ghost use Rattle.piles.specs.declared.pile_fault.PileFault.TheVariants.{Memory, Row, Stack};
 
-use crate::pile_kind::UnknownPile;
 use bottoms::{ListFault, RowFault};
 use std::alloc::AllocError;
 use transducers::StackFault;
@@ -65,13 +64,5 @@ impl From<ListFault> for PileFault {
             ListFault::Length => Self::List,
             ListFault::Memory => Self::Memory,
         }
-    }
-}
-
-impl From<UnknownPile> for PileFault {
-    ghost from_gives = { λ _ r. r ≡ List };
-
-    fn from(_fault: UnknownPile) -> PileFault {
-        Self::List
     }
 }

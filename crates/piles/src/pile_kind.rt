@@ -1,6 +1,5 @@
 // The piles that a set text can name, and their numbers.
-use std::error::Error;
-use std::fmt;
+use crate::pile_fault::PileFault;
 
 // 1 the set, 2 turned, 3 two high, 4 trimmed, 5 two high and then trimmed, 6 two of pile 3 stacked.
 #[derive(Clone, Copy, PartialEq, Eq, Debug)]
@@ -13,20 +12,16 @@ pub enum PileKind {
     FourHigh,
 }
 
-// A number that names no pile. An error of its own, as that of a number that no kind of paper has: callers print either.
-#[derive(Clone, Copy, PartialEq, Eq, Debug)]
-pub struct UnknownPile(pub u8);
-
-// The pile of a set text's number.
+// The pile of a set text's number. A number that names none is refused as a list is.
 impl TryFrom<u8> for PileKind {
     ghost use Rattle.std.specs.Prelude.{◌≡◌};
     ghost use Rattle.piles.specs.PileKinds.{numbered};
 
-    type Error = UnknownPile;
+    type Error = PileFault;
 
     ghost try_from_gives = { λ number r. r ≡ numbered number };
 
-    fn try_from(number: u8) -> Result<PileKind, UnknownPile> {
+    fn try_from(number: u8) -> Result<PileKind, PileFault> {
         match number {
             1 => Ok(PileKind::Plain),
             2 => Ok(PileKind::Turned),
@@ -34,20 +29,7 @@ impl TryFrom<u8> for PileKind {
             4 => Ok(PileKind::Trimmed),
             5 => Ok(PileKind::TrimmedTwoHigh),
             6 => Ok(PileKind::FourHigh),
-            _ => Err(UnknownPile(number)),
+            _ => Err(PileFault::List),
         }
     }
 }
-
-impl fmt::Display for UnknownPile {
-    ghost use Rattle.std.specs.Prelude.{Some};
-    ghost use Rattle.piles.specs.PileKinds.{unknown_pile_text};
-
-    ghost output = { λ unknown. Some (unknown_pile_text unknown) };
-
-    fn fmt<W: fmt::Write>(&self, f: &mut fmt::Formatter<W>) -> fmt::Result {
-        write!(f, "no pile has number {}", self.0)
-    }
-}
-
-impl Error for UnknownPile {}
