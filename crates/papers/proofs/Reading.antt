@@ -1,8 +1,8 @@
 -- What the blocks that were read so far say of their paper. Assumes nothing.
-use Rattle.std.proofs.Common.{◌≡◌, ℕ, ◌+◌, ◌-◌, ◌*◌, ◌<◌, ◌≤◌, Bool, false, eqb, ◌⊎◌, ◌↔◌, List, [], ◌∷◌, length, get_or, drop, Ok, Err, Result, sym, refl, ap, ◌∙◌, subst, ap₂, add-zero, inl, inr, arith, lit<}
-use Rattle.std.proofs.lemmas.List.{length-drop, get_or-drop, drop-drop}
+use Rattle.std.proofs.Common.{◌≡◌, ℕ, ◌+◌, ◌-◌, ◌*◌, ◌<◌, ◌≤◌, Bool, false, eqb, ◌⊎◌, ◌↔◌, List, [], ◌∷◌, length, Ok, Err, Result, sym, refl, ap, ◌∙◌, subst, ap₂, inl, inr, arith, lit<}
 use Rattle.std.proofs.lemmas.Bool.{cases_eq, eq-eqb, ne_eqb}
 use Rattle.papers.proofs.Fields.{byte_at, kind_of_first, kind_again}
+use Rattle.papers.proofs.Numbering.{Numbered, none_passed, inside, here, more_passed, all_passed}
 use Rattle.papers.proofs.PaperTests.{paper_exactly}
 use Rattle.papers.proofs.Sound.{passes_from_due}
 use Rattle.papers.specs.Block.{kind_byte, count_byte, kind_of}
@@ -78,13 +78,10 @@ module _ (bs : List ℕ) where
       let same_count : count ≡ paper_count bs = omega (arith, read.counted, byte_at bs b 3 (512 * (blocks bs - 1) + 3) (lit< tt) (omega arith)) in
       ap₂ (λ k n. Ok (saying k n)) same_kind same_count ∙ sym (ap (λ v. answered v (saying (kind_of (kind_byte bs)) (paper_count bs))) pass)
 
--- where the reading stands in the other blocks: the next place, the blocks that are left, and the block that was read last
+-- where the reading stands in the other blocks: the next place, the blocks that are left, and those that were read
 pub record Stands (bs : List ℕ) (others : List (List ℕ)) (place count : ℕ) (left : List (List ℕ)) : Type 0 where
-  pub last : ℕ
-  pub next : place ≡ last + 1
-  pub within : last ≤ length others
-  pub rest : left ≡ drop last others
-  pub read : AreRead bs last count
+  pub among : Numbered others place left
+  pub read : AreRead bs among.passed count
 
 same_law : (x y : List ℕ) (p q d e : ℕ) (l m : Bool) (r : Result Block BlockFault) → x ≡ y → p ≡ q → d ≡ e → l ≡ m → BlockLaw x p d l r → BlockLaw y q e m r
 same_law x y p q d e l m r at place due last law = rw (at, place, due, last) at law
@@ -101,7 +98,7 @@ module _ (bs start : List ℕ) (others : List (List ℕ)) (are : AreBlocks bs st
 
   module _ (block : Block) (law : BlockLaw start 0 0 only (Ok block)) where
     pub start_read : Stands bs others 1 block.count others
-    start_read = record { last = 0; next = refl; within = omega arith; rest = refl; read = read_first bs block (first_law (Ok block) law) }
+    start_read = record { among = none_passed others; read = read_first bs block (first_law (Ok block) law) }
 
     kind_read : kind_number block.kind ≡ kind_byte bs
     kind_read = sym (first_law (Ok block) law).1.block.marked ∙ kind_of_first bs
@@ -109,42 +106,34 @@ module _ (bs start : List ℕ) (others : List (List ℕ)) (are : AreBlocks bs st
     module _ (place count : ℕ) (left : List (List ℕ)) (stands : Stands bs others place count left) where
       -- a block that is read next
       module _ (x : List ℕ) (more : List (List ℕ)) (due : ℕ) (last : Bool) (at : left ≡ x ∷ more) (is_due : due ≡ kind_number block.kind) (is_last : last ≡ eqb place (length others)) where
-        inside : stands.last < length others
-        inside = omega (arith, length-drop stands.last others, ap length (sym stands.rest ∙ at))
+        is_next : x ≡ block_at bs (stands.among.passed + 1)
+        is_next = here stands.among at [] ∙ are.each stands.among.passed [] (inside stands.among at)
 
-        here : x ≡ block_at bs (stands.last + 1)
-        here =
-            sym (ap (λ bs. get_or bs 0 []) (sym stands.rest ∙ at)) ∙ get_or-drop stands.last others 0 [] ∙ ap (λ j. get_or others j []) (add-zero stands.last) ∙ are.each stands.last [] inside
-
-        next_law : (r : Result Block BlockFault) → BlockLaw x place due last r → BlockLaw (block_at bs (stands.last + 1)) (stands.last + 1) (kind_byte bs) (eqb (stands.last + 1 + 1) (blocks bs)) r
+        next_law : (r : Result Block BlockFault) → BlockLaw x place due last r → BlockLaw (block_at bs (stands.among.passed + 1)) (stands.among.passed + 1) (kind_byte bs) (eqb (stands.among.passed + 1 + 1) (blocks bs)) r
         next_law r law =
-            let b : ℕ = stands.last + 1 in
-            let ends : last ≡ eqb (b + 1) (blocks bs) = is_last ∙ same_test place (length others) (b + 1) (blocks bs) (λ is. omega (arith, are.many, stands.next), λ is. omega (arith, are.many, stands.next)) in
-            same_law x (block_at bs b) place b due (kind_byte bs) last (eqb (b + 1) (blocks bs)) r here stands.next (is_due ∙ kind_read) ends law
+            let b : ℕ = stands.among.passed + 1 in
+            let ends : last ≡ eqb (b + 1) (blocks bs) = is_last ∙ same_test place (length others) (b + 1) (blocks bs) (λ is. omega (arith, are.many, stands.among.next), λ is. omega (arith, are.many, stands.among.next)) in
+            same_law x (block_at bs b) place b due (kind_byte bs) last (eqb (b + 1) (blocks bs)) r is_next stands.among.next (is_due ∙ kind_read) ends law
 
         pub next_fails : (f : BlockFault) → BlockLaw x place due last (Err f) → PaperFaultLaw bs (paper.Block f)
         next_fails f law =
-            later_fault bs are.whole stands.last count f stands.read (omega (arith, are.many, inside)) (next_law (Err f) law)
+            later_fault bs are.whole stands.among.passed count f stands.read (omega (arith, are.many, inside stands.among at)) (next_law (Err f) law)
 
         pub next_read : (next : Block) → BlockLaw x place due last (Ok next) → Stands bs others (place + 1) (count + next.count) more
         next_read next law = record {
-          last = stands.last + 1;
-          next = ap (λ n. n + 1) stands.next;
-          within = omega (arith, inside);
-          rest = sym (ap (drop 1) (sym stands.rest ∙ at)) ∙ drop-drop 1 stands.last others;
-          read = read_more bs stands.last count next stands.read (omega (arith, are.many, inside)) (next_law (Ok next) law);
+          among = more_passed stands.among at;
+          read = read_more bs stands.among.passed count next stands.read (omega (arith, are.many, inside stands.among at)) (next_law (Ok next) law);
         }
 
       -- the iterator has no place left, or no block
-      ended : (65535 - place ≡ 0) ⊎ (length left ≡ 0) → stands.last + 1 ≡ blocks bs
-      ended (inl over) = absurd (omega (arith, are.many, are.whole.most, stands.next, stands.within))
-      ended (inr none) = omega (arith, are.many, ap length stands.rest, length-drop stands.last others, stands.within)
+      ended : (65535 - place ≡ 0) ⊎ (length left ≡ 0) → stands.among.passed + 1 ≡ blocks bs
+      ended end = omega (arith, are.many, all_passed stands.among 65535 (omega (arith, are.many, are.whole.most)) end)
 
       pub count_small : (count + 255 < 65536) × (count ≤ 126 * blocks bs)
       count_small =
-          let most = count_most bs stands.last count stands.read in
-          (omega (arith, are.many, are.whole.most, stands.within), omega (arith, are.many, stands.within))
+          let most = count_most bs stands.among.passed count stands.read in
+          (omega (arith, are.many, are.whole.most, stands.among.within), omega (arith, are.many, stands.among.within))
 
       pub all_read : (65535 - place ≡ 0) ⊎ (length left ≡ 0) → Ok (record { kind = block.kind; numbers = numbers bs count }) ≡ contents_of bs
       all_read none =
-          read_all bs are.whole stands.last count block.kind stands.read (ended none) kind_read
+          read_all bs are.whole stands.among.passed count block.kind stands.read (ended none) kind_read

@@ -1,4 +1,4 @@
-use Rattle.std.proofs.Common.{◌≡◌, ◌<◌, ◌≤◌, ◌∷◌, ◌*◌, ap, inl, inr, length, length-take, arith, rules}
+use Rattle.std.proofs.Common.{◌≡◌, ◌<◌, ◌∷◌, inl, inr, length, take, arith, rules}
 use Rattle.papers.proofs.Weighing.{Weighed, none_weighed, term_small, sum_small, more_weighed, all_weighed}
 use Rattle.papers.proofs.bytes.BlockBytes.weighted_sum.Goals as goal
 
@@ -10,9 +10,6 @@ loop-byte-init c =
 
 -- the byte and its weight
 module _ (c : goal.After-from) where
-  size : 508 ≤ length c.args.self.now.bytes.now
-  size = omega (arith, ap length c.checked.ensures.value, length-take 508 c.args.self.now.bytes.now)
-
   small : c.from.result < 256
   small = omega arith
 
@@ -22,19 +19,18 @@ module _ (c : goal.After-from) where
   so : Weighed c.args.self.now.bytes.now c.in-Some.weight c.loop-byte.sum c.loop-byte.byte-iterator.a.rest.now
   so = rw c.in-Some.ensures.steps.1.0 c.loop-byte.invariant
 
-  term : c.in-Some.weight * c.from.result ≤ 508 * 255
-  term = term_small _ size _ _ _ so _ _ small at
+  long : length (take 508 c.args.self.now.bytes.now) ≡ 508
+  long = rw c.checked.ensures.value at c.checked.ensures.len
 
 pub overflow_mul-sum : goal.overflow_mul-sum
-overflow_mul-sum c = record { fits = omega (arith, term c) }
+overflow_mul-sum c = record { fits = omega (arith, term_small (long c) (so c) (small c) (at c)) }
 
 pub overflow_add-sum : goal.overflow_add-sum
-overflow_add-sum c = record { fits = sum_small _ (size c) _ _ _ (so c) _ _ (small c) (at c) }
+overflow_add-sum c = record { fits = sum_small (long c) (so c) (small c) (at c) }
 
 pub loop-byte-preserved : goal.loop-byte-preserved
-loop-byte-preserved c = rw c.in-Some.ensures.steps.1.1 (more_weighed _ (size c) _ _ _ (so c) _ _ (small c) (at c))
+loop-byte-preserved c = rw c.in-Some.ensures.steps.1.1 (more_weighed (long c) (so c) (small c) (at c))
 
 pub returns : goal.returns
 returns c =
-    let size : 508 ≤ length c.args.self.now.bytes.now = omega (arith, ap length c.checked.ensures.value, length-take 508 c.args.self.now.bytes.now) in
-    all_weighed _ size _ _ _ c.loop-byte.invariant (elim c.in-None.ensures.steps [ inl none ↦ inr none.1.0 | inr over ↦ inl over.1.0 ])
+    all_weighed (rw c.checked.ensures.value at c.checked.ensures.len) c.loop-byte.invariant (elim c.in-None.ensures.steps [ inl none ↦ inr none.1.0 | inr over ↦ inl over.1.0 ])
