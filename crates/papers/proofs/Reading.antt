@@ -83,11 +83,15 @@ pub record Stands (bs : List ℕ) (others : List (List ℕ)) (place count : ℕ)
   pub among : Numbered others place left
   pub read : AreRead bs among.passed count
 
+-- at the place as the code has it
+pub at_place : {bs : List ℕ} {others : List (List ℕ)} {place now count : ℕ} {left : List (List ℕ)} → place ≡ now → Stands bs others now count left → Stands bs others place count left
+at_place same stands = rw same stands
+
 same_law : (x y : List ℕ) (p q d e : ℕ) (l m : Bool) (r : Result Block BlockFault) → x ≡ y → p ≡ q → d ≡ e → l ≡ m → BlockLaw x p d l r → BlockLaw y q e m r
 same_law x y p q d e l m r at place due last law = rw (at, place, due, last) at law
 
 -- what the block reader answered of the first block, and of each of the others
-module _ (bs start : List ℕ) (others : List (List ℕ)) (are : AreBlocks bs start others) (only : Bool) (is_only : only ≡ eqb (length others) 0) where
+module _ {bs start : List ℕ} {others : List (List ℕ)} (are : AreBlocks bs start others) {only : Bool} (is_only : only ≡ eqb (length others) 0) where
   first_law : (r : Result Block BlockFault) → BlockLaw start 0 0 only r → BlockLaw (block_at bs 0) 0 0 (eqb 1 (blocks bs)) r
   first_law r law =
       let last : only ≡ eqb 1 (blocks bs) = is_only ∙ same_test (length others) 0 1 (blocks bs) (λ is. omega (arith, are.many), λ is. omega (arith, are.many)) in
@@ -96,16 +100,16 @@ module _ (bs start : List ℕ) (others : List (List ℕ)) (are : AreBlocks bs st
   pub start_fails : (f : BlockFault) → BlockLaw start 0 0 only (Err f) → PaperFaultLaw bs (paper.Block f)
   start_fails f law = first_fault bs are.whole f (first_law (Err f) law)
 
-  module _ (block : Block) (law : BlockLaw start 0 0 only (Ok block)) where
+  module _ {block : Block} (law : BlockLaw start 0 0 only (Ok block)) where
     pub start_read : Stands bs others 1 block.count others
     start_read = record { among = none_passed others; read = read_first bs block (first_law (Ok block) law) }
 
     kind_read : kind_number block.kind ≡ kind_byte bs
     kind_read = sym (first_law (Ok block) law).1.block.marked ∙ kind_of_first bs
 
-    module _ (place count : ℕ) (left : List (List ℕ)) (stands : Stands bs others place count left) where
+    module _ {place count : ℕ} {left : List (List ℕ)} (stands : Stands bs others place count left) where
       -- a block that is read next
-      module _ (x : List ℕ) (more : List (List ℕ)) (due : ℕ) (last : Bool) (at : left ≡ x ∷ more) (is_due : due ≡ kind_number block.kind) (is_last : last ≡ eqb place (length others)) where
+      module _ {x : List ℕ} {more : List (List ℕ)} {due : ℕ} {last : Bool} (at : left ≡ x ∷ more) (is_due : due ≡ kind_number block.kind) (is_last : last ≡ eqb place (length others)) where
         is_next : x ≡ block_at bs (stands.among.passed + 1)
         is_next = here stands.among at [] ∙ are.each stands.among.passed [] (inside stands.among at)
 
