@@ -90,11 +90,7 @@ impl BlockBytes<'_> {
         requires { at + 4 ≤ BLOCK_BYTES }
         ensures { result ≡ word self.now.bytes.now at }
     {
-        u32::from_le_bytes([
-            self.bytes[at],
-            self.bytes[at + 1],
-            self.bytes[at + 2],
-            self.bytes[at + 3],
-        ])
+        let bytes = self.bytes;
+        u32::from_le_bytes(*bytes[at..].first_chunk().unwrap())
     }
 }
