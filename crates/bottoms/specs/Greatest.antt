@@ -35,7 +35,7 @@ module _ (f : Tile → ℕ) where
   unfolding greatest
   greatest_more ts i so d within before =
       let step : greatest f (drop i ts) ≡ max (f (slice_index_or ts i d)) (greatest f (drop (i + 1) ts)) =
-          at_drop_more (greatest f) ts i d within in
+      at_drop_more (greatest f) ts i d within in
       omega arith
 
   pub greatest_all :

@@ -71,39 +71,39 @@ module _ (l u : Meaning) (lv : Valid l) (uv : Valid u) where
       (c : Counts) (states : c.states ≡ (stack l u).states) (letters : c.letters ≡ (stack l u).letters)
       (slots : c.slots ≡ (stack l u).slots)
     where
-    lies : (e : Edge) → Inside (stack l u).states (stack l u).letters e → lies_inside c e ≡ true
-    lies e h =
-        grind (arith, states, letters, h.from_state, h.to_state, h.south_letter, h.north_letter)
+      lies : (e : Edge) → Inside (stack l u).states (stack l u).letters e → lies_inside c e ≡ true
+      lies e h =
+          grind (arith, states, letters, h.from_state, h.to_state, h.south_letter, h.north_letter)
 
-    kept_joined :
-        (e f : Edge) → Inside l.states l.letters e → Inside u.states u.letters f → (b : Bool) →
-        held_edge c (cond b (Some (joined e f)) None) ≡ cond b (Some (joined e f)) None
-    kept_joined e f low high true = rw (lies _ (joined_inside e f low high)) refl
-    kept_joined e f low high false = refl
+      kept_joined :
+          (e f : Edge) → Inside l.states l.letters e → Inside u.states u.letters f → (b : Bool) →
+          held_edge c (cond b (Some (joined e f)) None) ≡ cond b (Some (joined e f)) None
+      kept_joined e f low high true = rw (lies _ (joined_inside e f low high)) refl
+      kept_joined e f low high false = refl
 
-    kept :
-        (i j : ℕ) (o p : Option Edge) → l.edge i ≡ o → u.edge j ≡ p →
-        held_edge c (both_edges u.states o p) ≡ both_edges u.states o p
-    kept i j (Some e) (Some f) low high = kept_joined e f (lv.inside i e low) (uv.inside j f high) (north e == south f)
-    kept i j (Some e) None low high = refl
-    kept i j None p low high = refl
+      kept :
+          (i j : ℕ) (o p : Option Edge) → l.edge i ≡ o → u.edge j ≡ p →
+          held_edge c (both_edges u.states o p) ≡ both_edges u.states o p
+      kept i j (Some e) (Some f) low high = kept_joined e f (lv.inside i e low) (uv.inside j f high) (north e == south f)
+      kept i j (Some e) None low high = refl
+      kept i j None p low high = refl
 
-    held_slot :
-        (i : ℕ) (b : Bool) → nat_lt i c.slots ≡ b →
-        cond b (held_edge c ((stack l u).edge i)) None ≡ (stack l u).edge i
-    held_slot i true within = kept _ _ _ _ refl refl
-    held_slot i false within =
-        let past : l.slots * u.slots ≤ i = subst (λ n. n ≤ i) slots (ltb-false i c.slots within) in
-        sym (stack_beyond i past)
+      held_slot :
+          (i : ℕ) (b : Bool) → nat_lt i c.slots ≡ b →
+          cond b (held_edge c ((stack l u).edge i)) None ≡ (stack l u).edge i
+      held_slot i true within = kept _ _ _ _ refl refl
+      held_slot i false within =
+          let past : l.slots * u.slots ≤ i = subst (λ n. n ≤ i) slots (ltb-false i c.slots within) in
+          sym (stack_beyond i past)
 
-    -- so a stack held to its counts is the stack
-    pub stack_is_held : stack_held c l u ≡ stack l u
-    stack_is_held = λ k. record {
-      states = states k;
-      letters = letters k;
-      slots = slots k;
-      edge = fun_ext (λ i. held_slot i _ refl) k;
-    }
+      -- so a stack held to its counts is the stack
+      pub stack_is_held : stack_held c l u ≡ stack l u
+      stack_is_held = λ k. record {
+        states = states k;
+        letters = letters k;
+        slots = slots k;
+        edge = fun_ext (λ i. held_slot i _ refl) k;
+      }
 
 -- the states of an edge that was answered
 pub states_below : (m : Meaning) (v : Valid m) (i : ℕ) (e : Edge) → Some e ≡ m.edge i → (from e < 4096) × (to e < 4096)
