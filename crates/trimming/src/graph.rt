@@ -61,7 +61,7 @@ impl Graph {
         let share = slots / states;
         let mut out = empty_lists(heap, states, share)?;
         let mut into = empty_lists(heap, states, share)?;
-        // a plain loop: what is in a slot goes into two lists, and either may want memory
+        // A loop over `filter_map` was tried: that the indices lie inside the two lists did not close.
         for i in 0..slots {
             if let Some((from, to, _, _)) = below.slot(i) {
                 out[from as usize].push(to)?;
