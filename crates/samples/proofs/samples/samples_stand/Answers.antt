@@ -1,6 +1,5 @@
-use Rattle.std.proofs.Common.{rules}
 use Rattle.samples.proofs.Sampled.{samples}
 use Rattle.samples.proofs.samples.samples_stand.Goals as goal
 
-pub returns : goal.returns
-returns c = record { hold = samples; count = search rules }
+pub returns-clause-hold : goal.returns-clause-hold
+returns-clause-hold c = samples
