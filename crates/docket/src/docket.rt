@@ -53,14 +53,12 @@ impl<P: Transducer> Docket<P> {
         ensures law { let meaning = P.meaning (pile_of self.old) in
             FilingLaw meaning paper.now (judged meaning paper.now) }
     {
-        // a match, as `inspect_err` does not say that on `Ok` its closure is not called
-        let paper = match read_paper(paper) {
-            Ok(paper) => paper,
-            Err(fault) => {
-                self.tallies.count(None, false);
-                return Err(fault.into());
-            }
-        };
+        let read = read_paper(paper);
+        // a test, as `inspect_err` does not say that on `Ok` its closure is not called
+        if read.is_err() {
+            self.tallies.count(None, false);
+        }
+        let paper = read?;
         let claim = weigh(&self.pile, &paper);
         self.tallies.count(Some(paper.kind()), claim.is_ok());
         self.ends = self.ends.after(claim?);
