@@ -1,19 +1,16 @@
 -- The steps of a drain. Assumes nothing.
-use Rattle.std.proofs.Common.{◌≡◌, ℕ, zero, suc, ◌+◌, ◌<◌, ◌≤◌, Bool, true, false, cond, eqb, ltb, List, [], ◌∷◌, ◌++◌, Vec, Global, vec_len, length, get_or, map, set, sum, take, refl, sym, ap, ◌∙◌, subst, inl, inr, arith}
-use Rattle.std.specs.Bool.{then_some}
-use Rattle.std.specs.List.{cons_option, enumerate_from, filter_map}
+use Rattle.std.proofs.Common.{◌≡◌, ℕ, zero, suc, ◌+◌, ◌<◌, ◌≤◌, Bool, true, false, cond, eqb, ltb, List, [], ◌∷◌, ◌++◌, length, get_or, map, set, sum, take, refl, sym, ap, ◌∙◌, subst, inl, inr, arith}
 use Rattle.std.specs.Prelude.{sum_by}
 use mathlib.Core.Path.{fun_ext}
-use Rattle.std.proofs.lemmas.Bool.{cases_eq, cases_lt, eq-eqb, le-ltb, lt-ltb, ltb-true, ne_eqb}
-use Rattle.std.proofs.lemmas.List.{get_or_past, get_or-map, get_or-set_same, get_or-set_other, length-map}
-use Rattle.std.proofs.lemmas.List.Sums.{sum_by-set, sum_by_more, sum_by_more_le}
-use Rattle.trimming.specs.Draining.{Lasting, Left, standing}
+use Rattle.std.proofs.lemmas.Bool.{cases_eq, cases_lt, le-ltb, lt-ltb, ltb-true}
+use Rattle.std.proofs.lemmas.List.{get_or_past, get_or-map, get_or-set_other, length-map}
+use Rattle.std.proofs.lemmas.List.Sums.{count_by-le-length, sum_by-set, sum_by_more, sum_by_more_le}
+use Rattle.trimming.specs.Draining.{AreDeadEnds, Lasting, Left, standing}
 use Rattle.trimming.specs.Graphs.{intos, outs}
 use Rattle.trimming.specs.Linking.{at, links, times_in}
 use Rattle.trimming.specs.Trimming.{States, listed}
 use Rattle.trimming.specs.declared.graph.Graph.{Graph}
-use Rattle.trimming.proofs.Linking.{at_read, length-at, length-lists}
-use Rattle.trimming.proofs.Times.{not_past, one_at, one_comm, one_same, one_other, sum_has, sum_ones, sum_plus, sum_some, times-cons, times_push}
+use Rattle.trimming.proofs.Times.{count_inside, count_less, not_past, one_at, one_comm, one_same, one_other, sum_has, sum_ones, sum_plus, sum_some, times_push}
 
 -- a drain under way: a state's count is of its links to states that stand, and each set that lasts stands
 pub record Draining (ls : List (List ℕ)) (counts going : List ℕ) : Type 0 where
@@ -39,73 +36,21 @@ some_one n one = not_past 0 n (λ none. omega (arith, one_none n (omega arith)))
 some_of : (n : ℕ) → (n ≡ 0 → ⊥) → 1 ≤ n
 some_of n other = not_past 0 n (λ none. other (omega arith))
 
--- the states from a on that have no link
-abbrev pub unlinked : ℕ → List ℕ → List ℕ
-unlinked a counts = filter_map (λ p. then_some (eqb p.1 0) p.0) (enumerate_from a counts)
+-- how long the list of a state is
+length-at : (ls : List (List ℕ)) (q : ℕ) → get_or (map length ls) q 0 ≡ length (at ls q)
+length-at [] q = refl
+length-at (l ∷ ls) zero = refl
+length-at (l ∷ ls) (suc q) = length-at ls q
 
-unlinked-cons : (x : ℕ) (xs : List ℕ) (a q : ℕ) → times_in (unlinked a (x ∷ xs)) q ≡ cond (eqb x 0) (one_at a q) 0 + times_in (unlinked (a + 1) xs) q
-unlinked-cons x xs a q = by (eqb x 0)
-  where
-    by : (b : Bool) → times_in (cons_option (then_some b a) (unlinked (a + 1) xs)) q ≡ cond b (one_at a q) 0 + times_in (unlinked (a + 1) xs) q
-    by true = times-cons a (unlinked (a + 1) xs) q
-    by false = omega arith
-
-unlinked_first : (x : ℕ) (xs : List ℕ) (a q : ℕ) → x ≡ 0 → times_in (unlinked a (x ∷ xs)) q ≡ one_at a q + times_in (unlinked (a + 1) xs) q
-unlinked_first x xs a q none = omega (arith, unlinked-cons x xs a q, ap (λ b. cond b (one_at a q) 0) (eq-eqb x 0 none))
-
-unlinked_linked : (x : ℕ) (xs : List ℕ) (a q : ℕ) → (x ≡ 0 → ⊥) → times_in (unlinked a (x ∷ xs)) q ≡ times_in (unlinked (a + 1) xs) q
-unlinked_linked x xs a q some = omega (arith, unlinked-cons x xs a q, ap (λ b. cond b (one_at a q) 0) (ne_eqb x 0 some))
-
-unlinked_later : (x : ℕ) (xs : List ℕ) (a q : ℕ) → (a ≡ q → ⊥) → times_in (unlinked a (x ∷ xs)) q ≡ times_in (unlinked (a + 1) xs) q
-unlinked_later x xs a q other =
-    elim (cases_eq x 0) [
-      | inl none ↦ omega (arith, unlinked_first x xs a q none, one_other a q other)
-      | inr some ↦ unlinked_linked x xs a q some
-    ]
-
-unlinked_before : (counts : List ℕ) (a q : ℕ) → q < a → times_in (unlinked a counts) q ≡ 0
-unlinked_before [] a q lt = refl
-unlinked_before (x ∷ xs) a q lt = unlinked_later x xs a q (λ same. omega arith) ∙ unlinked_before xs (a + 1) q (omega arith)
-
-unlinked_at : (counts : List ℕ) (a k q : ℕ) → a + k ≡ q → k < length counts → one_if_some (get_or counts k 0) + times_in (unlinked a counts) q ≡ 1
-unlinked_at [] a k q at lt = absurd (omega arith)
-unlinked_at (x ∷ xs) a zero q at lt =
-    let before = unlinked_before xs (a + 1) q (omega arith) in
-    elim (cases_eq x 0) [
-      | inl none ↦ omega (arith, before, unlinked_first x xs a q none, one_same a q (omega arith), one_none x none)
-      | inr some ↦ omega (arith, before, unlinked_linked x xs a q some, one_some x (some_of x some))
-    ]
-unlinked_at (x ∷ xs) a (suc k) q at lt = omega (arith, unlinked_later x xs a q (λ same. omega arith), unlinked_at xs (a + 1) k q (omega arith) (omega arith))
-
-unlinked_past : (counts : List ℕ) (a q : ℕ) → a + length counts ≤ q → times_in (unlinked a counts) q ≡ 0
-unlinked_past [] a q past = refl
-unlinked_past (x ∷ xs) a q past = unlinked_later x xs a q (λ same. omega arith) ∙ unlinked_past xs (a + 1) q (omega arith)
-
--- a state with a link is in the list
-pub link_inside : (ls : List (List ℕ)) (p q : ℕ) → 1 ≤ links ls p q → p < length ls
-link_inside ls p q some =
-    not_past p (length ls) (λ past. let none : links ls p q ≡ 0 = ap (λ xs. times_in xs q) (get_or_past ls p [] past) in omega arith)
+pub times_within : (xs : List ℕ) (q : ℕ) → times_in xs q ≤ length xs
+times_within xs q = count_by-le-length (λ x. eqb x q) xs
 
 -- a state that is popped stood once more
 pub standing_pop : (counts going : List ℕ) (t q : ℕ) → standing counts (going ++ t ∷ []) q ≡ standing counts going q + one_at t q
 standing_pop counts going t q = omega (arith, times_push going t q)
 
--- a count that is not 0 is in the list
-pub count_inside : (counts : List ℕ) (q : ℕ) → 1 ≤ get_or counts q 0 → q < length counts
-count_inside counts q some = not_past q (length counts) (λ past. omega (arith, get_or_past counts q 0 past))
-
 -- one link is taken from state x, which then has v
 module _ (counts : List ℕ) (x v : ℕ) (less : v + 1 ≡ get_or counts x 0) where
-  pub count_less : (q : ℕ) → get_or (set counts x v) q 0 + one_at x q ≡ get_or counts q 0
-  count_less q =
-      elim (cases_eq q x) [
-        | inl same ↦
-            let now : get_or (set counts x v) q 0 ≡ v = rw same (get_or-set_same counts x v 0 (count_inside counts x (omega arith))) in
-            let was : get_or counts q 0 ≡ get_or counts x 0 = rw same refl in
-            omega (arith, one_same x q (sym same))
-        | inr other ↦ omega (arith, get_or-set_other counts x q v 0 other, one_other x q (λ same. other (sym same)))
-      ]
-
   pub count_falls : sum (set counts x v) + 1 ≡ sum counts
   count_falls =
       let sums : sum (set counts x v) + get_or counts x 0 ≡ sum counts + v = sum_by-set (λ n. n) counts x v 0 (count_inside counts x (omega arith)) in
@@ -141,43 +86,115 @@ module _ (states counts now : List ℕ) (i : ℕ) (below : i < length states) (t
   pub taken_more : (v : ℕ) → v + 1 ≡ get_or now (get_or states i 0) 0 → (q : ℕ) → get_or (set now (get_or states i 0) v) q 0 + times_in (take (i + 1) states) q ≡ get_or counts q 0
   taken_more v less q = omega (arith, taken q, count_less now (get_or states i 0) v less q, sum_by_more (λ y. one_at y q) states i 0 below)
 
-module _ (g : Graph) where
-  same_lists : length (outs g) ≡ length (intos g)
-  same_lists = omega (arith, g.same_size, length-lists g.out.items, length-lists g.into.items)
+-- the first n states have been looked at for dead ends
+pub record Seen (out into : List (List ℕ)) (n : ℕ) (going : List ℕ) : Type 0 where
+  pub below : (q : ℕ) → 1 ≤ times_in going q → q < n
+  pub once : (q : ℕ) → times_in going q ≤ 1
+  pub no_link : (q : ℕ) → 1 ≤ times_in going q → length (at out q) ≡ 0
+  pub each : (q : ℕ) → q < n → length (at out q) ≡ 0 → 1 ≤ length (at into q) → 1 ≤ times_in going q
 
-  -- a drain begins
-  pub draining_starts : (counts : List ℕ) → counts ≡ map (λ v. vec_len v) g.out.items → Draining (outs g) counts (unlinked 0 counts)
-  draining_starts counts made = record {
-    size = long;
-    inside = inside;
-    once = once;
-    counted = λ q. rw made (length-at g.out.items q) ∙ sum_ones (standing counts (unlinked 0 counts)) (at (outs g) q) (λ x has. below x (omega (arith, same_lists, link_inside (intos g) x q (omega (arith, g.reverse q x)))));
-    keeps_lasting = λ S lasting q is. let to = lasting q is in omega (arith, below q (link_inside (outs g) q to.0 to.1));
+module _ (out into : List (List ℕ)) where
+  pub seen_none : Seen out into 0 []
+  seen_none = record {
+    below = λ q has. absurd (omega arith);
+    once = λ q. omega arith;
+    no_link = λ q has. absurd (omega arith);
+    each = λ q lt. absurd (omega arith);
   }
-    where
-      long : length counts ≡ length (outs g)
-      long = omega (arith, ap length made, length-map g.out.items (λ (v : Vec ℕ Global). vec_len v), length-lists g.out.items)
 
-      below : (q : ℕ) → q < length (outs g) → standing counts (unlinked 0 counts) q ≡ 1
-      below q lt = unlinked_at counts 0 q q (omega arith) (omega (arith, long))
+  module _ (n : ℕ) (going : List ℕ) (old : Seen out into n going) where
+    pub seen_pass : (length (at out n) ≡ 0 → 1 ≤ length (at into n) → ⊥) → Seen out into (n + 1) going
+    seen_pass other = record {
+      below = λ q has. omega (arith, old.below q has);
+      once = old.once;
+      no_link = old.no_link;
+      each = λ q lt none some.
+          elim (cases_eq q n) [
+            | inl same ↦ absurd (other (rw same at none) (rw same at some))
+            | inr more ↦ old.each q (omega (arith, more)) none some
+          ];
+    }
 
-      beyond : (q : ℕ) → length (outs g) ≤ q → standing counts (unlinked 0 counts) q ≡ 0
-      beyond q past = omega (arith, long, unlinked_past counts 0 q (omega (arith, long)), one_none (get_or counts q 0) (get_or_past counts q 0 (omega (arith, long))))
+    pub seen_push : length (at out n) ≡ 0 → Seen out into (n + 1) (going ++ n ∷ [])
+    seen_push none = record {
+      below = λ q has.
+          elim (cases_eq q n) [
+            | inl same ↦ omega arith
+            | inr other ↦ omega (arith, old.below q (omega (arith, times_push going n q, one_other n q (λ same. other (sym same)))))
+          ];
+      once = λ q.
+          elim (cases_eq q n) [
+            | inl same ↦
+                let new : times_in going q < 1 = not_past (times_in going q) 1 (λ has. omega (arith, old.below q has)) in
+                omega (arith, times_push going n q, one_same n q (sym same))
+            | inr other ↦ omega (arith, old.once q, times_push going n q, one_other n q (λ same. other (sym same)))
+          ];
+      no_link = λ q has.
+          elim (cases_eq q n) [
+            | inl same ↦ rw same none
+            | inr other ↦ old.no_link q (omega (arith, times_push going n q, one_other n q (λ same. other (sym same))))
+          ];
+      each = λ q lt unlinked some.
+          elim (cases_eq q n) [
+            | inl same ↦ omega (arith, times_push going n q, one_same n q (sym same))
+            | inr other ↦ omega (arith, times_push going n q, old.each q (omega (arith, other)) unlinked some)
+          ];
+    }
 
-      inside : (q : ℕ) → 1 ≤ standing counts (unlinked 0 counts) q → q < length (outs g)
-      inside q stands = not_past q (length (outs g)) (λ past. omega (arith, beyond q past))
+    pub seen_all : n ≡ length out → n ≡ length into → AreDeadEnds out into going
+    seen_all outs_end intos_end = record {
+      inside = λ q has. omega (arith, old.below q has);
+      once = old.once;
+      no_link = old.no_link;
+      each = λ q none some.
+          old.each q (not_past q n (λ past. let past_all : length (at into q) ≡ 0 = ap (length {A = ℕ}) (get_or_past into q [] (omega arith)) in omega arith)) none some;
+    }
 
-      once : (q : ℕ) → standing counts (unlinked 0 counts) q ≤ 1
-      once q = elim (cases_lt q (length (outs g))) [ inl lt ↦ omega (arith, below q lt) | inr ge ↦ omega (arith, beyond q ge) ]
+module _ (g : Graph) where
+  -- a drain begins
+  module _ (counts going : List ℕ) (made : counts ≡ map length (outs g)) (ends : AreDeadEnds (outs g) (intos g) going) where
+    count_is : (q : ℕ) → get_or counts q 0 ≡ length (at (outs g) q)
+    count_is q = rw made (length-at (outs g) q)
+
+    stands_once : (q : ℕ) → standing counts going q ≤ 1
+    stands_once q =
+        elim (cases_lt 0 (get_or counts q 0)) [
+          | inl some ↦
+              let unlisted : times_in going q < 1 = not_past (times_in going q) 1 (λ has. omega (arith, ends.no_link q has, count_is q)) in
+              omega (arith, one_some (get_or counts q 0) some)
+          | inr none ↦ omega (arith, one_none (get_or counts q 0) (omega arith), ends.once q)
+        ]
+
+    stands_inside : (q : ℕ) → 1 ≤ standing counts going q → q < length (outs g)
+    stands_inside q stands =
+        not_past q (length (outs g)) (λ past.
+        let none : get_or counts q 0 ≡ 0 = count_is q ∙ ap (length {A = ℕ}) (get_or_past (outs g) q [] past) in
+        omega (arith, ends.inside q (omega (arith, one_none (get_or counts q 0) none))))
+
+    -- a state with a link, and one that a link leads to
+    stands_from : (p q : ℕ) → 1 ≤ links (outs g) p q → 1 ≤ standing counts going p
+    stands_from p q some = omega (arith, one_some (get_or counts p 0) (omega (arith, count_is p, times_within (at (outs g) p) q)))
+
+    stands_to : (p q : ℕ) → 1 ≤ links (outs g) p q → 1 ≤ standing counts going q
+    stands_to p q some =
+        elim (cases_lt 0 (get_or counts q 0)) [
+          | inl linked ↦ omega (arith, one_some (get_or counts q 0) linked)
+          | inr none ↦ omega (arith, ends.each q (omega (arith, count_is q)) (omega (arith, g.reverse p q, times_within (at (intos g) q) p)))
+        ]
+
+    pub draining_starts : Draining (outs g) counts going
+    draining_starts = record {
+      size = ap length made ∙ length-map (outs g) (length {A = ℕ});
+      inside = stands_inside;
+      once = stands_once;
+      counted = λ q. count_is q ∙ sum_ones (standing counts going) (at (outs g) q) (λ x has. omega (arith, stands_once x, stands_to q x has));
+      keeps_lasting = λ S lasting q is. let to = lasting q is in stands_from q to.0 to.1;
+    }
 
   -- a state goes
   module _ (counts going : List ℕ) (t : ℕ) (old : Draining (outs g) counts (going ++ t ∷ [])) where
-    pub goes_inside : t < length g.into.items
-    goes_inside = omega (arith, old.inside t (omega (arith, standing_pop counts going t t, one_same t t refl)), same_lists, length-lists g.into.items)
-
-    -- the states whose links lead to it, as the code reads them
-    pub goes_from : (v : Vec ℕ Global) (lent : List ℕ) → v ≡ get_or g.into.items t v → lent ≡ v.items → lent ≡ at (intos g) t
-    goes_from v lent read is = is ∙ at_read g.into.items t v goes_inside read
+    pub goes_inside : t < length (intos g)
+    goes_inside = omega (arith, old.inside t (omega (arith, standing_pop counts going t t, one_same t t refl)), g.same_size)
 
     -- the links into it count still
     still_counted : (q : ℕ) → get_or counts q 0 ≡ sum_by (standing counts going) (at (outs g) q) + links (intos g) t q

@@ -1,5 +1,6 @@
+pub mod Cutting
 pub mod Draining
 pub mod Linking
-pub mod Gathering
+pub mod Sorting
 pub mod Thriving
 pub mod Times

@@ -1,91 +1,44 @@
 -- The links of a graph are the edges of the slots looked at. Assumes nothing.
-use Rattle.std.proofs.Common.{◌≡◌, ℕ, zero, suc, ◌+◌, ◌<◌, ◌≤◌, cond, ◌&&◌, eqb, List, [], ◌∷◌, ◌++◌, length, get_or, map, set, replicate, Some, None, Option, Vec, Global, vec_len, refl, sym, ap, ◌∙◌, subst, inl, inr, add-one, arith}
-use Rattle.std.proofs.Math.Bool.{and_comm}
-use Rattle.std.proofs.lemmas.Bool.{cases_eq, cases_lt, eq-eqb, ne_eqb}
-use Rattle.std.proofs.lemmas.List.{map-set, get_or-map, get_or_past, get_or-replicate, get_or-set_same, get_or-set_other, length-map, length-replicate, length-set}
+use Rattle.std.proofs.Common.{◌≡◌, ℕ, zero, suc, ◌+◌, ◌<◌, ◌≤◌, List, [], ◌∷◌, ◌++◌, length, map, Some, None, Option, Vec, Global, refl, ap, ◌∙◌, subst, inl, inr, add-one, arith}
+use Rattle.std.specs.List.{All}
+use Rattle.std.specs.Vec.{with_items}
+use Rattle.std.proofs.lemmas.Bool.{cases_eq, cases_lt}
+use Rattle.std.proofs.lemmas.List.{length-map, length_push, with_items_is}
+use Rattle.std.proofs.lemmas.List.Elements.{All-map, All-nil, All-push, All-weaker}
+use Rattle.std.proofs.lemmas.List.Sums.{sum_by-cons, sum_by_push}
 use Rattle.transducers.specs.Meaning.{Edge, Meaning, Valid, from, to}
-use Rattle.trimming.specs.Linking.{LinksOf, at, edges, joins, links, lists, times_in}
-use Rattle.trimming.proofs.Times.{one_at, one_other, one_same, times_push}
-
-pub length-lists : (vs : List (Vec ℕ Global)) → length (lists vs) ≡ length vs
-length-lists vs = length-map vs (λ (v : Vec ℕ Global). v.items)
-
--- the list of a state, where it is read and where a state is added to it
-pub at_read : (vs : List (Vec ℕ Global)) (i : ℕ) (v : Vec ℕ Global) → i < length vs → v ≡ get_or vs i v → v.items ≡ at (lists vs) i
-at_read vs i v inside read = ap (λ (x : Vec ℕ Global). x.items) read ∙ sym (get_or-map (λ (x : Vec ℕ Global). x.items) vs i v [] inside)
-
-pub lists_push : (vs : List (Vec ℕ Global)) (i x : ℕ) (v w : Vec ℕ Global) → i < length vs → v ≡ get_or vs i v → w.items ≡ v.items ++ x ∷ [] → lists (set vs i w) ≡ set (lists vs) i (at (lists vs) i ++ x ∷ [])
-lists_push vs i x v w inside read pushed =
-    map-set (λ (y : Vec ℕ Global). y.items) vs i w
-    ∙ ap (set (lists vs) i) (pushed ∙ ap (λ xs. xs ++ x ∷ []) (at_read vs i v inside read))
-
--- one if both pairs are the same
-abbrev both_at : ℕ → ℕ → ℕ → ℕ → ℕ
-both_at f p t q = cond (eqb f p && eqb t q) 1 0
-
-both_here : (f p t q : ℕ) → f ≡ p → both_at f p t q ≡ one_at t q
-both_here f p t q here = ap (λ b. cond (b && eqb t q) 1 0) (eq-eqb f p here)
-
-both_past : (f p t q : ℕ) → (f ≡ p → ⊥) → both_at f p t q ≡ 0
-both_past f p t q past = ap (λ b. cond (b && eqb t q) 1 0) (ne_eqb f p past)
-
-both_comm : (f p t q : ℕ) → both_at f p t q ≡ both_at t q f p
-both_comm f p t q = ap (λ b. cond b 1 0) (and_comm (eqb f p) (eqb t q))
-
--- one link more from f to t
-links_push : (ls : List (List ℕ)) (f t p q : ℕ) → f < length ls → links (set ls f (at ls f ++ t ∷ [])) p q ≡ links ls p q + both_at f p t q
-links_push ls f t p q inside =
-    let longer = at ls f ++ t ∷ [] in
-    elim (cases_eq p f) [
-      | inl same ↦
-          let found : links (set ls f longer) p q ≡ times_in longer q = rw same (ap (λ xs. times_in xs q) (get_or-set_same ls f longer [] inside)) in
-          let was : links ls p q ≡ times_in (at ls f) q = rw same refl in
-          omega (arith, times_push (at ls f) t q, both_here f p t q (sym same))
-      | inr other ↦
-          let kept : links (set ls f longer) p q ≡ links ls p q = ap (λ xs. times_in xs q) (get_or-set_other ls f p longer [] other) in
-          omega (arith, both_past f p t q (λ same. other (sym same)))
-    ]
+use Rattle.trimming.specs.Linking.{LinksOf, edges, joins}
+use Rattle.trimming.specs.Links.{AreEdges, joined, turned}
+use Rattle.trimming.specs.Lists.{AreLinks}
+use Rattle.trimming.specs.declared.link.Link.{Link}
+use Rattle.trimming.proofs.Times.{both_at, both_comm, both_here, both_past, one_other, one_same}
 
 module _ (m : Meaning) where
   edges_more : (p q n : ℕ) → edges m p q (n + 1) ≡ edges m p q n + joins p q (m.edge n)
   unfolding edges
   edges_more p q n = rw add-one refl
 
-  pub links_none : LinksOf m 0 (replicate m.states []) (replicate m.states [])
+  pub edges_none : AreEdges m 0 []
   unfolding edges
-  links_none = record {
-    out_size = length-replicate m.states [];
-    into_size = length-replicate m.states [];
-    leaving = none;
-    entering = λ p q. none q p;
-  }
-    where
-      none : (p q : ℕ) → links (replicate m.states []) p q ≡ 0
-      none p q =
-          ap (λ xs. times_in xs q)
-          (elim (cases_lt p m.states) [
-            | inl lt ↦ get_or-replicate m.states p [] [] lt
-            | inr ge ↦ get_or_past (replicate m.states []) p [] (omega (arith, length-replicate {A = List ℕ} m.states []))
-          ])
+  edges_none = record { few = omega arith; inside = All-nil _; edges = λ p q. refl }
 
   -- one slot more
-  module _ (n : ℕ) (out into : List (List ℕ)) (old : LinksOf m n out into) where
-    pub links_pass : m.edge n ≡ None → LinksOf m (n + 1) out into
-    links_pass is = record {
-      out_size = old.out_size;
-      into_size = old.into_size;
-      leaving = λ p q. omega (arith, old.leaving p q, edges_more p q n, ap (joins p q) is);
-      entering = λ p q. omega (arith, old.entering p q, edges_more p q n, ap (joins p q) is);
+  module _ (n : ℕ) (ls : List Link) (old : AreEdges m n ls) where
+    pub edges_pass : m.edge n ≡ None → AreEdges m (n + 1) ls
+    edges_pass is = record {
+      few = omega (arith, old.few);
+      inside = old.inside;
+      edges = λ p q. omega (arith, old.edges p q, edges_more p q n, ap (joins p q) is);
     }
 
-    pub links_more : Valid m → (e : Edge) → m.edge n ≡ Some e → LinksOf m (n + 1) (set out (from e) (at out (from e) ++ to e ∷ [])) (set into (to e) (at into (to e) ++ from e ∷ []))
-    links_more valid e is =
+    pub edges_push : Valid m → (e : Edge) → m.edge n ≡ Some e → AreEdges m (n + 1) (ls ++ record { from = from e; to = to e } ∷ [])
+    edges_push valid e is =
         let inside = valid.inside n e is in
+        let link : Link = record { from = from e; to = to e } in
         record {
-          out_size = length-set out (from e) _ ∙ old.out_size;
-          into_size = length-set into (to e) _ ∙ old.into_size;
-          leaving = λ p q. omega (arith, links_push out (from e) (to e) p q (omega (arith, old.out_size, inside.from_state)), old.leaving p q, edges_more p q n, ap (joins p q) is);
-          entering = λ p q. omega (arith, links_push into (to e) (from e) q p (omega (arith, old.into_size, inside.to_state)), old.entering p q, edges_more p q n, ap (joins p q) is, both_comm (from e) p (to e) q);
+          few = omega (arith, old.few, length_push ls link);
+          inside = All-push (λ (l : Link). (l.from < m.states) × (l.to < m.states)) ls link old.inside (inside.from_state, inside.to_state);
+          edges = λ p q. omega (arith, sum_by_push (λ (l : Link). both_at l.from p l.to q) ls link, old.edges p q, edges_more p q n, ap (joins p q) is);
         }
 
   -- an edge is counted, and what is counted is an edge
@@ -121,8 +74,27 @@ module _ (m : Meaning) where
         | inr none ↦ edge_found p q n (omega arith)
       ]
 
--- how long the list of a state is
-pub length-at : (vs : List (Vec ℕ Global)) (q : ℕ) → get_or (map (λ v. vec_len v) vs) q 0 ≡ length (at (lists vs) q)
-length-at [] q = refl
-length-at (v ∷ vs) zero = v.ok.0
-length-at (v ∷ vs) (suc q) = length-at vs q
+-- links turned round
+pub joined_turned : (ls : List Link) (p q : ℕ) → joined (map turned ls) q p ≡ joined ls p q
+joined_turned [] p q = refl
+joined_turned (l ∷ ls) p q =
+    omega (arith, sum_by-cons (λ (k : Link). both_at k.from q k.to p) (turned l) (map turned ls), sum_by-cons (λ (k : Link). both_at k.from p k.to q) l ls, both_comm l.from p l.to q, joined_turned ls p q)
+
+-- the links that `turn_round` leaves in a vector
+pub turned_items : (links : Vec Link Global) (lent now left : List Link) → lent ≡ links.items → now ≡ map turned lent → left ≡ (with_items links now).items → left ≡ map turned links.items
+turned_items links lent now left lent_is now_is left_is =
+    let all : now ≡ map turned links.items = now_is ∙ ap (map turned) lent_is in
+    left_is ∙ with_items_is links now (omega (arith, ap length all, length-map links.items turned, links.ok.0)) ∙ all
+
+pub turned_inside : (n : ℕ) (ls : List Link) → All (λ l. (l.from < n) × (l.to < n)) ls → All (λ l. l.from < n) (map turned ls)
+turned_inside n ls inside =
+    All-map (λ (l : Link). l.from < n) turned ls (All-weaker (λ (l : Link). (l.from < n) × (l.to < n)) (λ l. l.to < n) (λ l both. both.1) ls inside)
+
+-- the lists of the links and of the links turned round are those of a graph
+pub links_sorted : (m : Meaning) (ls : List Link) (out into : List (List ℕ)) → AreEdges m m.slots ls → AreLinks m.states ls out → AreLinks m.states (map turned ls) into → LinksOf m m.slots out into
+links_sorted m ls out into edges_are leave enter = record {
+  out_size = leave.size;
+  into_size = enter.size;
+  leaving = λ p q. leave.joins p q ∙ edges_are.edges p q;
+  entering = λ p q. enter.joins q p ∙ joined_turned ls p q ∙ edges_are.edges p q;
+}

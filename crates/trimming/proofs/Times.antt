@@ -1,7 +1,9 @@
 -- How many times a list has a number, and sums over its numbers. Assumes nothing.
-use Rattle.std.proofs.Common.{◌≡◌, ℕ, ◌+◌, ◌<◌, ◌≤◌, cond, eqb, List, [], ◌∷◌, ◌++◌, length, refl, sym, ap, ◌∙◌, inl, inr, arith}
+use Rattle.std.proofs.Common.{◌≡◌, ℕ, ◌+◌, ◌<◌, ◌≤◌, cond, ◌&&◌, eqb, List, [], ◌∷◌, ◌++◌, length, get_or, set, refl, sym, ap, ◌∙◌, inl, inr, arith}
 use Rattle.std.specs.Prelude.{sum_by}
+use Rattle.std.proofs.Math.Bool.{and_comm}
 use Rattle.std.proofs.lemmas.Bool.{cases_eq, cases_lt, eq-eqb, ne_eqb}
+use Rattle.std.proofs.lemmas.List.{get_or_past, get_or-set_same, get_or-set_other}
 use Rattle.std.proofs.lemmas.List.Sums.{sum_by-cons, sum_by_push}
 use Rattle.trimming.specs.Linking.{times_in}
 
@@ -26,14 +28,42 @@ one_comm x q =
       | inr other ↦ one_other x q other ∙ sym (one_other q x (λ same. other (sym same)))
     ]
 
+-- one if both pairs are the same
+abbrev pub both_at : ℕ → ℕ → ℕ → ℕ → ℕ
+both_at f p t q = cond (eqb f p && eqb t q) 1 0
+
+pub both_here : (f p t q : ℕ) → f ≡ p → both_at f p t q ≡ one_at t q
+both_here f p t q here = ap (λ b. cond (b && eqb t q) 1 0) (eq-eqb f p here)
+
+pub both_past : (f p t q : ℕ) → (f ≡ p → ⊥) → both_at f p t q ≡ 0
+both_past f p t q past = ap (λ b. cond (b && eqb t q) 1 0) (ne_eqb f p past)
+
+pub both_comm : (f p t q : ℕ) → both_at f p t q ≡ both_at t q f p
+both_comm f p t q = ap (λ b. cond b 1 0) (and_comm (eqb f p) (eqb t q))
+
 pub times-cons : (x : ℕ) (xs : List ℕ) (q : ℕ) → times_in (x ∷ xs) q ≡ one_at x q + times_in xs q
 times-cons x xs q = sum_by-cons (λ y. one_at y q) x xs
 
 pub times_push : (xs : List ℕ) (x q : ℕ) → times_in (xs ++ x ∷ []) q ≡ times_in xs q + one_at x q
 times_push xs x q = sum_by_push (λ y. one_at y q) xs x
 
+-- a count that is not 0 is in the list
+pub count_inside : (counts : List ℕ) (q : ℕ) → 1 ≤ get_or counts q 0 → q < length counts
+count_inside counts q some = not_past q (length counts) (λ past. omega (arith, get_or_past counts q 0 past))
+
+-- one is taken from the count at x, which is then v
+pub count_less : (counts : List ℕ) (x v : ℕ) → v + 1 ≡ get_or counts x 0 → (q : ℕ) → get_or (set counts x v) q 0 + one_at x q ≡ get_or counts q 0
+count_less counts x v less q =
+    elim (cases_eq q x) [
+      | inl same ↦
+          let now : get_or (set counts x v) q 0 ≡ v = rw same (get_or-set_same counts x v 0 (count_inside counts x (omega arith))) in
+          let was : get_or counts q 0 ≡ get_or counts x 0 = rw same refl in
+          omega (arith, one_same x q (sym same))
+      | inr other ↦ omega (arith, get_or-set_other counts x q v 0 other, one_other x q (λ same. other (sym same)))
+    ]
+
 -- the sum of two
-pub sum_plus : (f g h : ℕ → ℕ) → ((x : ℕ) → f x ≡ g x + h x) → (xs : List ℕ) → sum_by f xs ≡ sum_by g xs + sum_by h xs
+pub sum_plus : {X : Type 0} (f g h : X → ℕ) → ((x : X) → f x ≡ g x + h x) → (xs : List X) → sum_by f xs ≡ sum_by g xs + sum_by h xs
 sum_plus f g h both [] = refl
 sum_plus f g h both (x ∷ xs) = omega (arith, both x, sum_plus f g h both xs, sum_by-cons f x xs, sum_by-cons g x xs, sum_by-cons h x xs)
 

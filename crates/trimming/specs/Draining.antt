@@ -1,6 +1,6 @@
 -- Draining a set of states: a state without a link to a state that is left goes. Assumes nothing.
-use Rattle.std.specs.Prelude.{◌≡◌, ℕ, ◌+◌, ◌≤◌, true, if◌then◌else◌, List, nat_lt, slice_index}
-use Rattle.trimming.specs.Linking.{links, times_in}
+use Rattle.std.specs.Prelude.{◌≡◌, ℕ, ◌+◌, ◌≤◌, ◌<◌, true, if◌then◌else◌, List, length, nat_lt, slice_index}
+use Rattle.trimming.specs.Linking.{at, links, times_in}
 use Rattle.trimming.specs.Trimming.{States}
 
 -- some link leads from q to a state of S
@@ -19,3 +19,10 @@ pub record Left (ls : List (List ℕ)) (K : States) : Type 0 where
 -- how often a state stands: once if it has links, and once for each time that it is listed to go
 abbrev pub standing : List ℕ → List ℕ → ℕ → ℕ
 standing counts going q = (if nat_lt 0 (slice_index counts q) then 1 else 0) + times_in going q
+
+-- each state that links lead to, but none from, is listed once, and no other that has links
+pub record AreDeadEnds (out into : List (List ℕ)) (going : List ℕ) : Type 0 where
+  pub inside : (q : ℕ) → 1 ≤ times_in going q → q < length out
+  pub once : (q : ℕ) → times_in going q ≤ 1
+  pub no_link : (q : ℕ) → 1 ≤ times_in going q → length (at out q) ≡ 0
+  pub each : (q : ℕ) → length (at out q) ≡ 0 → 1 ≤ length (at into q) → 1 ≤ times_in going q

@@ -1,11 +1,12 @@
 -- Links between states, where each state has a list of those that its links lead to. Assumes nothing.
-use Rattle.std.specs.Prelude.{◌≡◌, ℕ, zero, suc, ◌+◌, if◌then◌else◌, ◌&&◌, List, [], length, ◌==◌, count_by, map, Some, None, Option, slice_index_or}
-use Rattle.std.specs.declared.alloc.Global.{Global}
-use Rattle.std.specs.declared.vec.Vec.{Vec}
+use Rattle.std.specs.Prelude.{◌≡◌, ℕ, zero, suc, ◌+◌, if◌then◌else◌, ◌&&◌, List, [], ◌∷◌, length, ◌==◌, count_by, Some, None, Option, slice_index_or, slice_range}
 use Rattle.transducers.specs.Meaning.{Edge, Meaning, from, to}
 
-abbrev pub lists : List (Vec ℕ Global) → List (List ℕ)
-lists vs = map (λ v. v.items) vs
+-- the lists that stand end to end in one, each from its place to the next
+abbrev pub cut : List ℕ → List ℕ → List (List ℕ)
+cut [] items = []
+cut (a ∷ []) items = []
+cut (a ∷ b ∷ bs) items = slice_range items a b ∷ cut (b ∷ bs) items
 
 -- the list of a state
 abbrev pub at : List (List ℕ) → ℕ → List ℕ

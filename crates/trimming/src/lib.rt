@@ -2,6 +2,8 @@
 #![tactic(auto)]
 
 mod graph;
+mod link;
+mod lists;
 mod trim;
 
 pub use trim::Trim;
