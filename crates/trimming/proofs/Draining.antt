@@ -33,7 +33,7 @@ one_none n none = ap (λ b. cond b 1 0) (le-ltb 0 n (omega arith))
 some_one : (n : ℕ) → 1 ≤ one_if_some n → 1 ≤ n
 some_one n one = not_past 0 n (λ none. omega (arith, one_none n (omega arith)))
 
-some_of : (n : ℕ) → (n ≡ 0 → ⊥) → 1 ≤ n
+pub some_of : (n : ℕ) → (n ≡ 0 → ⊥) → 1 ≤ n
 some_of n other = not_past 0 n (λ none. other (omega arith))
 
 -- how long the list of a state is
@@ -90,7 +90,8 @@ module _ (states counts now : List ℕ) (i : ℕ) (below : i < length states) (t
 pub record Seen (out into : List (List ℕ)) (n : ℕ) (going : List ℕ) : Type 0 where
   pub below : (q : ℕ) → 1 ≤ times_in going q → q < n
   pub once : (q : ℕ) → times_in going q ≤ 1
-  pub no_link : (q : ℕ) → 1 ≤ times_in going q → length (at out q) ≡ 0
+  pub left_by_none : (q : ℕ) → 1 ≤ times_in going q → length (at out q) ≡ 0
+  pub led_to : (q : ℕ) → 1 ≤ times_in going q → 1 ≤ length (at into q)
   pub each : (q : ℕ) → q < n → length (at out q) ≡ 0 → 1 ≤ length (at into q) → 1 ≤ times_in going q
 
 module _ (out into : List (List ℕ)) where
@@ -98,7 +99,8 @@ module _ (out into : List (List ℕ)) where
   seen_none = record {
     below = λ q has. absurd (omega arith);
     once = λ q. omega arith;
-    no_link = λ q has. absurd (omega arith);
+    left_by_none = λ q has. absurd (omega arith);
+    led_to = λ q has. absurd (omega arith);
     each = λ q lt. absurd (omega arith);
   }
 
@@ -107,7 +109,8 @@ module _ (out into : List (List ℕ)) where
     seen_pass other = record {
       below = λ q has. omega (arith, old.below q has);
       once = old.once;
-      no_link = old.no_link;
+      left_by_none = old.left_by_none;
+      led_to = old.led_to;
       each = λ q lt none some.
           elim (cases_eq q n) [
             | inl same ↦ absurd (other (rw same at none) (rw same at some))
@@ -115,8 +118,8 @@ module _ (out into : List (List ℕ)) where
           ];
     }
 
-    pub seen_push : length (at out n) ≡ 0 → Seen out into (n + 1) (going ++ n ∷ [])
-    seen_push none = record {
+    pub seen_push : length (at out n) ≡ 0 → 1 ≤ length (at into n) → Seen out into (n + 1) (going ++ n ∷ [])
+    seen_push none some = record {
       below = λ q has.
           elim (cases_eq q n) [
             | inl same ↦ omega arith
@@ -129,15 +132,20 @@ module _ (out into : List (List ℕ)) where
                 omega (arith, times_push going n q, one_same n q (sym same))
             | inr other ↦ omega (arith, old.once q, times_push going n q, one_other n q (λ same. other (sym same)))
           ];
-      no_link = λ q has.
+      left_by_none = λ q has.
           elim (cases_eq q n) [
             | inl same ↦ rw same none
-            | inr other ↦ old.no_link q (omega (arith, times_push going n q, one_other n q (λ same. other (sym same))))
+            | inr other ↦ old.left_by_none q (omega (arith, times_push going n q, one_other n q (λ same. other (sym same))))
           ];
-      each = λ q lt unlinked some.
+      led_to = λ q has.
+          elim (cases_eq q n) [
+            | inl same ↦ rw same some
+            | inr other ↦ old.led_to q (omega (arith, times_push going n q, one_other n q (λ same. other (sym same))))
+          ];
+      each = λ q lt unlinked linked.
           elim (cases_eq q n) [
             | inl same ↦ omega (arith, times_push going n q, one_same n q (sym same))
-            | inr other ↦ omega (arith, times_push going n q, old.each q (omega (arith, other)) unlinked some)
+            | inr other ↦ omega (arith, times_push going n q, old.each q (omega (arith, other)) unlinked linked)
           ];
     }
 
@@ -145,7 +153,8 @@ module _ (out into : List (List ℕ)) where
     seen_all outs_end intos_end = record {
       inside = λ q has. omega (arith, old.below q has);
       once = old.once;
-      no_link = old.no_link;
+      left_by_none = old.left_by_none;
+      led_to = old.led_to;
       each = λ q none some.
           old.each q (not_past q n (λ past. let past_all : length (at into q) ≡ 0 = ap (length {A = ℕ}) (get_or_past into q [] (omega arith)) in omega arith)) none some;
     }
@@ -160,7 +169,7 @@ module _ (g : Graph) where
     stands_once q =
         elim (cases_lt 0 (get_or counts q 0)) [
           | inl some ↦
-              let unlisted : times_in going q < 1 = not_past (times_in going q) 1 (λ has. omega (arith, ends.no_link q has, count_is q)) in
+              let unlisted : times_in going q < 1 = not_past (times_in going q) 1 (λ has. omega (arith, ends.left_by_none q has, count_is q)) in
               omega (arith, one_some (get_or counts q 0) some)
           | inr none ↦ omega (arith, one_none (get_or counts q 0) (omega arith), ends.once q)
         ]

@@ -1,9 +1,9 @@
 -- The states from which links can be followed for ever both ways are the largest set that thrives. Assumes nothing.
-use Rattle.std.proofs.Common.{◌≡◌, ℕ, ◌<◌, ◌≤◌, zero, suc, Bool, true, ◌&&◌, ◌||◌, eqb, List, [], ◌∷◌, map, Some, refl, sym, ap, ◌∙◌, subst, inl, inr, arith}
+use Rattle.std.proofs.Common.{◌≡◌, ℕ, ◌+◌, ◌<◌, ◌≤◌, Bool, true, false, ◌&&◌, ◌||◌, eqb, List, length, set, Some, below_more, refl, sym, ap, ◌∙◌, subst, inl, inr, arith}
 use mathlib.Core.Path.{fun_ext}
-use Rattle.std.proofs.lemmas.Bool.{and_from, and_parts, and_right, eq-eqb, eqb-true, or_cases, or_left, or_right}
+use Rattle.std.proofs.lemmas.Bool.{and_from, and_parts, cases_lt, eq-eqb, eqb-true, or_cases, or_left, or_right}
 use Rattle.std.proofs.lemmas.Option.{none-some}
-use Rattle.std.specs.Prelude.{zip}
+use Rattle.std.proofs.lemmas.List.{get_or_past, get_or-set_same, get_or-set_other}
 use Rattle.transducers.specs.Meaning.{Edge, Meaning, Valid, from, to}
 use Rattle.trimming.specs.Draining.{Lasting, Left, LinkTo}
 use Rattle.trimming.specs.Linking.{IsReverse, LinksOf, links}
@@ -76,9 +76,28 @@ module _ (m : Meaning) (valid : Valid m) (out into : List (List ℕ)) (graph : L
     pub common_largest : (K : States) → ((q : ℕ) → K q ≡ (A q && B q)) → Largest m K
     common_largest K common = subst (Largest m) (sym (fun_ext common)) both_largest
 
--- the states that two lists have in common
-pub listed-zip : (xs ys : List Bool) (q : ℕ) → listed (map (λ p. p.0 && p.1) (zip xs ys)) q ≡ (listed xs q && listed ys q)
-listed-zip [] ys q = refl
-listed-zip (x ∷ xs) [] q = sym (and_right (listed (x ∷ xs) q) _ refl)
-listed-zip (x ∷ xs) (y ∷ ys) zero = refl
-listed-zip (x ∷ xs) (y ∷ ys) (suc q) = listed-zip xs ys q
+-- the first i states of a list are common with another, and the others are as they were
+pub record CommonTo (old other : List Bool) (i : ℕ) (now : List Bool) : Type 0 where
+  pub common : (q : ℕ) → q < i → listed now q ≡ (listed old q && listed other q)
+  pub rest : (q : ℕ) → i ≤ q → listed now q ≡ listed old q
+
+module _ (old other : List Bool) where
+  pub common_none : CommonTo old other 0 old
+  common_none = record { common = λ q lt. absurd (omega arith); rest = λ q le. refl }
+
+  pub common_more : (i : ℕ) (now : List Bool) → i < length now → CommonTo old other i now → CommonTo old other (i + 1) (set now i (listed now i && listed other i))
+  common_more i now inside done = record {
+    common = below_more _ _
+        (λ q lt. get_or-set_other now i q _ false (λ same. omega arith) ∙ done.common q lt)
+        (get_or-set_same now i _ false inside ∙ ap (λ a. a && listed other i) (done.rest i (omega arith)));
+    rest = λ q le. get_or-set_other now i q _ false (λ same. omega arith) ∙ done.rest q (omega arith);
+  }
+
+  pub common_all : (i : ℕ) (now : List Bool) → length old ≤ i → CommonTo old other i now → (q : ℕ) → listed now q ≡ (listed old q && listed other q)
+  common_all i now all end q =
+      elim (cases_lt q i) [
+        | inl lt ↦ end.common q lt
+        | inr ge ↦
+            let past : listed old q ≡ false = get_or_past old q false (omega arith) in
+            end.rest q ge ∙ past ∙ sym (ap (λ x. x && listed other q) past)
+      ]

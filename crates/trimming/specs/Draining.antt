@@ -20,9 +20,10 @@ pub record Left (ls : List (List ℕ)) (K : States) : Type 0 where
 abbrev pub standing : List ℕ → List ℕ → ℕ → ℕ
 standing counts going q = (if nat_lt 0 (slice_index counts q) then 1 else 0) + times_in going q
 
--- each state that links lead to, but none from, is listed once, and no other that has links
+-- the states that links lead to, but none from, each listed once
 pub record AreDeadEnds (out into : List (List ℕ)) (going : List ℕ) : Type 0 where
   pub inside : (q : ℕ) → 1 ≤ times_in going q → q < length out
   pub once : (q : ℕ) → times_in going q ≤ 1
-  pub no_link : (q : ℕ) → 1 ≤ times_in going q → length (at out q) ≡ 0
+  pub left_by_none : (q : ℕ) → 1 ≤ times_in going q → length (at out q) ≡ 0
+  pub led_to : (q : ℕ) → 1 ≤ times_in going q → 1 ≤ length (at into q)
   pub each : (q : ℕ) → length (at out q) ≡ 0 → 1 ≤ length (at into q) → 1 ≤ times_in going q

@@ -83,7 +83,8 @@ impl Graph {
 
     // A state without a link to a state that is left goes, until each has one: the states that are left then.
     pub(crate) fn lasting(&self, heap: Global) -> Result<Vec<bool>, AllocError>
-        ensures { IfOk result (λ kept. Left (outs self.now) (listed kept.items)) }
+        ensures size { IfOk result (λ kept. length kept.items ≡ length (outs self.now)) }
+        ensures left { IfOk result (λ kept. Left (outs self.now) (listed kept.items)) }
     {
         // for each state how many links it has to states that are left
         let mut counts = self.out.lengths(heap)?;

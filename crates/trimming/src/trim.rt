@@ -1,5 +1,5 @@
 // A transducer without the edges that lead nowhere.
-ghost use Rattle.std.specs.Prelude.{◌≡◌, IfOk};
+ghost use Rattle.std.specs.Prelude.{◌≡◌, ℕ, ◌&&◌, length, IfOk};
 ghost use Rattle.trimming.specs.Trimming.{Largest, kept_set, listed, trim};
 ghost use Rattle.trimming.specs.TrimmingLemmas.{trim_valid};
 
@@ -14,14 +14,25 @@ pub struct Trim<T> {
     kept: Vec<bool>,
 }
 
+// Takes out of a list of states those that another list lacks.
+fn keep_common(states: &mut [bool], other: &[bool])
+    requires sizes { length states.old ≡ length other.now }
+    ensures { (q : ℕ) → listed states.new q ≡ (listed states.old q && listed other.now q) }
+{
+    for state in 0..states.len() {
+        states[state] &= other[state];
+    }
+}
+
 // The states from which edges can be followed for ever both ways.
 fn thriving<T: Transducer>(heap: Global, below: &T) -> Result<Vec<bool>, AllocError>
     ensures { IfOk result (λ v. Largest (T.meaning below.now) (listed v.items)) }
 {
     let graph = Graph::new(heap, below)?;
-    let ahead = graph.lasting(heap)?;
+    let mut kept = graph.lasting(heap)?;
     let back = graph.reversed().lasting(heap)?;
-    ahead.iter().zip(&back).map(|(&a, &b)| a && b).collect(heap)
+    keep_common(&mut kept, &back);
+    Ok(kept)
 }
 
 impl<T: Transducer + Drop> Trim<T> {

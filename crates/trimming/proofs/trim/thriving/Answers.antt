@@ -1,16 +1,19 @@
-use Rattle.std.proofs.Common.{Bool, ◌&&◌, rules, tests}
-use Rattle.std.proofs.lemmas.Iterator.{YieldsList-from_map, YieldsList-from_slice, YieldsList-from_zip, items_from_collect}
-use Rattle.std.proofs.lemmas.Result.{IfOk-weaker}
+use Rattle.std.proofs.Common.{◌≡◌, length, ap, arith}
+use Rattle.std.proofs.lemmas.List.{with_items_is}
 use Rattle.trimming.specs.Trimming.{listed}
-use Rattle.trimming.proofs.Thriving.{common_largest, listed-zip}
+use Rattle.trimming.proofs.Thriving.{common_largest}
 use Rattle.trimming.proofs.trim.thriving.Goals as goal
+
+pub keep_common-requires : goal.keep_common-requires
+keep_common-requires g c =
+    record { sizes = omega (arith, ap length c.deref_mut.ensures.value, ap length c.deref.ensures.value, c.in_ok-kept.ensures.size, rw c.reversed.ensures.out at c.in_ok-back.ensures.size, c.in_ok-graph.graph.same_size) }
 
 pub returns : goal.returns
 returns g c =
     let m = g.T.Transducer.meaning c.args.below.now in
     let valid = g.met.T.Transducer.valid c.args.below.now in
-    let ahead = c.in_ok-ahead.ahead.items in
-    let back = c.in_ok-back.back.items in
-    IfOk-weaker c.collect.result _ _
-    (λ v is. common_largest m valid _ _ c.in_ok-graph.ensures (listed ahead) (listed back) c.in_ok-ahead.ensures (rw c.reversed.ensures.out at c.in_ok-back.ensures) (listed v.items) (λ q. rw is (listed-zip ahead back q)))
-    (items_from_collect _ c.collect.ensures.ran (YieldsList-from_map _ (λ (p : Bool × Bool). p.0 && p.1) (YieldsList-from_zip (YieldsList-from_slice ahead cc) (YieldsList-from_slice back cc)) c.map.ensures.closure (λ x r q k. search (rules, tests))))
+    let kept = c.in_ok-kept.kept in
+    let now = c.keep_common.new.states in
+    let long : length now ≡ kept.len = omega (arith, c.keep_common.auto.states, c.deref_mut.ensures.len) in
+    rw (with_items_is kept now long)
+    (common_largest m valid _ _ c.in_ok-graph.ensures (listed kept.items) (listed c.in_ok-back.back.items) c.in_ok-kept.ensures.left (rw c.reversed.ensures.out at c.in_ok-back.ensures.left) (listed now) (rw (c.deref_mut.ensures.value, c.deref.ensures.value) at c.keep_common.ensures))

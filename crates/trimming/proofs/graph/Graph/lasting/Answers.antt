@@ -1,6 +1,6 @@
 use Rattle.std.proofs.Common.{◌≡◌, [], length, ltb, ap, ◌∙◌, arith, rules, tests}
 use Rattle.std.proofs.lemmas.Iterator.{YieldsList-from_map, YieldsList-from_slice, items_from_collect}
-use Rattle.std.proofs.lemmas.List.{nil_from_length, with_items_is}
+use Rattle.std.proofs.lemmas.List.{length-map, nil_from_length, with_items_is}
 use Rattle.std.proofs.lemmas.Result.{IfOk-weaker}
 use Rattle.trimming.proofs.Draining.{draining_ends, draining_goes, draining_starts, goes_counted, goes_inside}
 use Rattle.trimming.proofs.graph.Graph.lasting.Goals as goal
@@ -33,6 +33,9 @@ pub returns : goal.returns
 returns c =
     let d = c.loop-state in
     let none : d.going.items ≡ [] = nil_from_length _ (omega (arith, c.in_default.ensures.cases.0, d.going.ok.0)) in
-    let left = draining_ends _ _ (rw none at d.invariant) in
-    IfOk-weaker c.collect.result _ _ (λ v is. rw is left)
-    (items_from_collect _ c.collect.ensures.ran (YieldsList-from_map _ (λ n. ltb 0 n) (YieldsList-from_slice d.counts.items cc) c.map.ensures.closure (λ x r q k. search (rules, tests))))
+    let end = rw none at d.invariant in
+    let ran = items_from_collect _ c.collect.ensures.ran (YieldsList-from_map _ (λ n. ltb 0 n) (YieldsList-from_slice d.counts.items cc) c.map.ensures.closure (λ x r q k. search (rules, tests))) in
+    record {
+      size = IfOk-weaker c.collect.result _ _ (λ v is. ap length is ∙ length-map d.counts.items (λ n. ltb 0 n) ∙ end.size) ran;
+      left = IfOk-weaker c.collect.result _ _ (λ v is. rw is (draining_ends _ _ end)) ran;
+    }
